@@ -1,0 +1,2 @@
+pub mod Smalls
+pub mod Parts
