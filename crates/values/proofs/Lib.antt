@@ -1,2 +1,3 @@
 pub mod Smalls
 pub mod Parts
+pub mod Firsts

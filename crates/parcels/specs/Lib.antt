@@ -1,0 +1,4 @@
+pub mod Layouts
+pub mod Literals
+pub mod Reading
+pub mod Opcodes

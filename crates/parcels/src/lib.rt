@@ -1,0 +1,34 @@
+// A parcel: its header and flags, its literals, its instructions, and what an opcode asks.
+mod layout;
+mod literals;
+mod opcodes;
+mod reading;
+
+pub use layout::CodeKind;
+pub use layout::CodeKindDebug;
+pub use layout::CodeKindPartialEq;
+pub use layout::Layout;
+pub use layout::LayoutDebug;
+pub use layout::LayoutPartialEq;
+pub use literals::Literal;
+pub use literals::LiteralDebug;
+pub use literals::LiteralPartialEq;
+pub use literals::first_wrong;
+pub use literals::literal_at;
+pub use opcodes::Direction;
+pub use opcodes::Effect;
+pub use opcodes::Ending;
+pub use opcodes::Flow;
+pub use opcodes::Operation;
+pub use opcodes::Source;
+pub use opcodes::Target;
+pub use opcodes::argument_count;
+pub use opcodes::landing;
+pub use opcodes::starts;
+pub use reading::Instruction;
+pub use reading::InstructionDebug;
+pub use reading::InstructionPartialEq;
+pub use reading::Reader;
+pub use reading::Unreadable;
+pub use reading::UnreadableDebug;
+pub use reading::UnreadablePartialEq;
