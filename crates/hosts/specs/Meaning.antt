@@ -1,7 +1,7 @@
 -- What a host means.
 use mathlib.Core.Path.{_≡_}
 use mathlib.Core.Bool.{Bool, true}
-use mathlib.Core.List.{List, [], _∷_}
+use mathlib.Core.List.{List, [], _∷_, map}
 use Prim.Native.Nat.{ℕ, zero, suc}
 use Rattle.std.specs.Orderings.{When}
 use Rattle.std.specs.Options.{mapped, okOr, Cases}
@@ -80,3 +80,12 @@ pub record Kept (m n : Meaning) : Type 0 where
 -- how a send ends: with what may come of the message if it is understood, else with no answer and nothing altered
 abbrev pub Answered : {S : Type 0} → (S → Meaning) → (S → Sent → Value → S → Type 0) → S → Sent → Option Value → S → Type 0
 Answered means may s m r t = When (means s .understands m) (Cases r ⊥ (λ v. may s m v t)) ((r ≡ None) × (means t ≡ means s))
+
+-- what a check asks of a host: the marks of its variables and bindings, and so their counts
+pub record Marks : Type 0 where
+  pub variables : List Bool
+  pub bindings : List Bool
+
+-- the marks of a host
+abbrev pub marks-of : Meaning → Marks
+marks-of m = record { variables = map (λ c. c .trusted) (m .variables); bindings = map (λ c. c .trusted) (m .bindings) }

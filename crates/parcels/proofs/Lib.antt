@@ -1,3 +1,4 @@
 pub mod Entries
 pub mod Pairs
 pub mod Tables
+pub mod Splits

@@ -1,7 +1,8 @@
 -- The header and the flags of a parcel, and the rules that they keep.
+use mathlib.Core.Path.{_≡_}
 use mathlib.Core.Bool.{Bool, cond, not, _||_}
 use mathlib.Core.List.{List, [], _∷_}
-use Prim.Native.Nat.{ℕ, _+_, _-_, _*_, _/_, _%_, _^_}
+use Prim.Native.Nat.{ℕ, _+_, _-_, _*_, _/_, _%_, _^_, _≤_}
 use lib.Dec.{eqb, ltb}
 use lib.ListN.{length, take, drop}
 use Rattle.std.specs.declared.result.Result.{Result}
@@ -95,3 +96,10 @@ layout-of b = and-then (header-of b) flagged
 -- the greatest height
 abbrev pub limit-of : Layout → ℕ
 limit-of l = l .slots - l .locals
+
+-- what the rules leave of a layout in n bytes
+pub record Fits-in (l : Layout) (n : ℕ) : Type 0 where
+  pub ends : 10 + 6 * l .literals + l .code ≡ n
+  pub few : l .literals ≤ 1024
+  pub short : l .code ≤ 4096
+  pub low : l .slots ≤ 252

@@ -1,6 +1,9 @@
 // The header and the flags of a parcel.
 ghost use mathlib.Core.Path.{_≡_};
-ghost use Rattle.parcels.specs.Layouts.{header-of, method-layout, block-layout, reserved-set, flagged, layout-of, limit-of};
+ghost use Prim.Native.Nat.{_+_, _*_, _≤_};
+ghost use lib.ListN.{length};
+ghost use Rattle.std.specs.Vec.{made};
+ghost use Rattle.parcels.specs.Layouts.{header-of, method-layout, block-layout, reserved-set, flagged, layout-of, limit-of, Fits-in};
 use values::Fault;
 use values::Rule;
 
@@ -33,7 +36,8 @@ pub struct Header {
 
 // The header of a parcel, or the first header rule that it breaks.
 fn read_header(bytes: &[u8]) -> Result<Header, Fault>
-    ensures { λ r. ⌜ r ≡ header-of (now (bytes .entry)) ⌝ }
+    ensures answer { λ r. ⌜ r ≡ header-of (now (bytes .entry)) ⌝ }
+    ensures fits { λ r. ⌜ made r (λ h. (10 + 6 * h .literals + h .code ≡ length (now (bytes .entry))) × (h .literals ≤ 1024) × (h .code ≤ 4096)) ⌝ }
 {
     let [k1, k0, n1, n0, f3, f2, f1, f0, l1, l0, ..] = bytes else {
         return Err(Fault {
@@ -123,7 +127,8 @@ fn reserved(header: Header) -> bool
 
 // The layout that a header gives, or the first flag rule that it breaks.
 fn read_flags(header: Header) -> Result<Layout, Fault>
-    ensures { λ r. ⌜ r ≡ flagged header ⌝ }
+    ensures answer { λ r. ⌜ r ≡ flagged header ⌝ }
+    ensures fits { λ r. ⌜ made r (λ l. (l .literals ≡ header .literals) × (l .code ≡ header .code) × (l .slots ≤ 252)) ⌝ }
 {
     if reserved(header) {
         return Err(Fault {
@@ -148,7 +153,8 @@ fn read_flags(header: Header) -> Result<Layout, Fault>
 impl Layout {
     // The layout of a parcel, or the first header rule or flag rule that it breaks.
     pub fn read(bytes: &[u8]) -> Result<Layout, Fault>
-        ensures { λ r. ⌜ r ≡ layout-of (now (bytes .entry)) ⌝ }
+        ensures answer { λ r. ⌜ r ≡ layout-of (now (bytes .entry)) ⌝ }
+        ensures fits { λ r. ⌜ made r (λ l. Fits-in l (length (now (bytes .entry)))) ⌝ }
     {
         let header = read_header(bytes)?;
         read_flags(header)

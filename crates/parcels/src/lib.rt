@@ -2,6 +2,7 @@
 mod layout;
 mod literals;
 mod opcodes;
+mod parts;
 mod reading;
 
 pub use layout::CodeKind;
@@ -25,6 +26,7 @@ pub use opcodes::Target;
 pub use opcodes::argument_count;
 pub use opcodes::landing;
 pub use opcodes::starts;
+pub use parts::Parcel;
 pub use reading::Instruction;
 pub use reading::InstructionDebug;
 pub use reading::InstructionPartialEq;
