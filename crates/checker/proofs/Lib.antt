@@ -1,2 +1,4 @@
 pub mod Trust
 pub mod Turns
+pub mod Greatest
+pub mod Works

@@ -1,3 +1,4 @@
 pub mod Operands
 pub mod Encoding
 pub mod Sweep
+pub mod Examination
