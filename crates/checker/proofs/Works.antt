@@ -120,15 +120,16 @@ take code limit R hs ws n p s h e = by (s .fuel) (s .enough) (s .same)
   where
     r : Ready hs ws n
     r = s .ready
+
     by : (f : ℕ) → n + blanks hs ≤ f → runs code limit f (work hs ws n) ≡ R → Taken code limit R hs ws (n - 1) p
     by zero en q = absurd (omega arith)
     by (suc f) en q = record {
       fuel = f;
       enough = omega arith;
       same =
-        ap (λ (k : ℕ). and-then (turn code limit k (work hs ws (n - 1))) (runs code limit f)) e
-        ∙ ap (goes (λ k v. and-then (turn code limit k v) (runs code limit f)) hs) (sym (stacked-pop ws n h))
-        ∙ q;
+          ap (λ (k : ℕ). and-then (turn code limit k (work hs ws (n - 1))) (runs code limit f)) e
+          ∙ ap (goes (λ k v. and-then (turn code limit k v) (runs code limit f)) hs) (sym (stacked-pop ws n h))
+          ∙ q;
       ready = record { room = omega (arith, r .room); wide = r .wide; inside = λ k b. r .inside k (omega arith) };
       spare = omega (arith, r .room);
       here = subst (λ (k : ℕ). k / 2 < length hs) (sym e) (r .inside (n - 1) (omega arith));
@@ -220,8 +221,8 @@ module _ {l p a : ℕ} {ss : List (Option ℕ)} {i : ℕ} {w₀ : Work} {c₀ : 
         let room : n < length ws = omega (arith, v .spare, r .wide) in
         record {
           same =
-            ap (λ (xs : List ℕ). visits l p a (drop (i + 1) ss) (record { heights = set hs (s / 2) a; waiting = xs })) (stacked-push ws n s room)
-            ∙ sym (cond-true (eqb (getD hs (s / 2) 0) 255) _ _ (eq-eqb _ 255 m)) ∙ within q;
+              ap (λ (xs : List ℕ). visits l p a (drop (i + 1) ss) (record { heights = set hs (s / 2) a; waiting = xs })) (stacked-push ws n s room)
+              ∙ sym (cond-true (eqb (getD hs (s / 2) 0) 255) _ _ (eq-eqb _ 255 m)) ∙ within q;
           count = omega (arith, v .count);
           spare = omega (arith, v .spare);
           ready = record {

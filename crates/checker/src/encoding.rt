@@ -40,7 +40,12 @@ fn is_selector(literal: Option<Literal>, arguments: u32) -> bool
     ensures { λ r. ⌜ r ≡ selects literal arguments ⌝ }
 {
     match literal {
-        Some(Literal::Selector { number: _, arguments: count }) => count as u32 == arguments,
+        Some(
+            Literal::Selector {
+                number: _,
+                arguments: count,
+            },
+        ) => count as u32 == arguments,
         _ => false,
     }
 }
@@ -78,10 +83,15 @@ fn operand_wrong(parcel: Parcel, variables: usize, operation: Operation, a: u32)
 {
     let cells = parcel.layout.arguments as u32 + parcel.layout.locals as u32;
     match operation {
-        Operation::SendSelector { is_super: _ } => !is_selector(literal_at(parcel.literals, a / 256), a % 256),
+        Operation::SendSelector { is_super: _ } => !is_selector(
+            literal_at(parcel.literals, a / 256),
+            a % 256,
+        ),
         Operation::Push(Source::Cell) | Operation::Store(Target::Cell) => a >= cells,
-        Operation::Push(Source::Binding) | Operation::Store(Target::Binding) => !is_binding(literal_at(parcel.literals, a)),
-        Operation::Push(Source::Variable) | Operation::Store(Target::Variable) => a as usize >= variables,
+        Operation::Push(Source::Binding) | Operation::Store(Target::Binding) =>
+            !is_binding(literal_at(parcel.literals, a)),
+        Operation::Push(Source::Variable) | Operation::Store(Target::Variable) => a as usize
+            >= variables,
         Operation::Push(Source::Integer) => a >= 536_870_912,
         Operation::Push(Source::Special) => a >= 3,
         Operation::Push(Source::Literal) => !is_constant(literal_at(parcel.literals, a)),
@@ -93,7 +103,10 @@ fn operand_wrong(parcel: Parcel, variables: usize, operation: Operation, a: u32)
 fn asks_self(operation: Operation) -> bool
     ensures { λ r. ⌜ r ≡ asks-self operation ⌝ }
 {
-    matches!(operation, Operation::Push(Source::Variable | Source::Receiver) | Operation::Store(Target::Variable))
+    matches!(
+        operation,
+        Operation::Push(Source::Variable | Source::Receiver) | Operation::Store(Target::Variable)
+    )
 }
 
 // Whether the code is a clean block.
@@ -180,29 +193,53 @@ fn makes_closure(operation: Operation) -> bool
 }
 
 // The first rule that an instruction breaks, once its opcode is known.
-fn operation_fault<H: Host>(host: &H, parcel: Parcel, trusted: bool, site: Site, operation: Operation) -> Option<Fault>
+fn operation_fault<H: Host>(
+    host: &H,
+    parcel: Parcel,
+    trusted: bool,
+    site: Site,
+    operation: Operation,
+) -> Option<Fault>
     ensures { λ r. ⌜ r ≡ first (operation-tests (setting (parts (parcel .entry)) (marks-of (means (now (host .entry)))) trusted) site operation) ⌝ }
 {
     let a = site.instruction.argument;
     let place = site.place;
     let kind = parcel.layout.kind;
     if operand_wrong(parcel, count_variables(host), operation, a) {
-        return Some(Fault { rule: Rule::OperandWrong, place });
+        return Some(Fault {
+            rule: Rule::OperandWrong,
+            place,
+        });
     }
     if is_clean(kind) && asks_self(operation) {
-        return Some(Fault { rule: Rule::CleanBlock, place });
+        return Some(Fault {
+            rule: Rule::CleanBlock,
+            place,
+        });
     }
     if !trusted && stores_trusted(host, parcel.literals, operation, a) {
-        return Some(Fault { rule: Rule::StoreTrusted, place });
+        return Some(Fault {
+            rule: Rule::StoreTrusted,
+            place,
+        });
     }
     if returns_method(operation) && !permits_return(kind) {
-        return Some(Fault { rule: Rule::ReturnForeign, place });
+        return Some(Fault {
+            rule: Rule::ReturnForeign,
+            place,
+        });
     }
     if lands_wrong(parcel.code, site.next, a, operation.flow()) {
-        return Some(Fault { rule: Rule::LandingWrong, place });
+        return Some(Fault {
+            rule: Rule::LandingWrong,
+            place,
+        });
     }
     if makes_closure(operation) && !site.after_block {
-        return Some(Fault { rule: Rule::ClosureAlone, place });
+        return Some(Fault {
+            rule: Rule::ClosureAlone,
+            place,
+        });
     }
     None
 }
@@ -213,6 +250,9 @@ pub fn site_fault<H: Host>(host: &H, parcel: Parcel, trusted: bool, site: Site) 
 {
     match Operation::of(site.instruction.opcode) {
         Some(operation) => operation_fault(host, parcel, trusted, site, operation),
-        None => Some(Fault { rule: Rule::OpcodeUnknown, place: site.place }),
+        None => Some(Fault {
+            rule: Rule::OpcodeUnknown,
+            place: site.place,
+        }),
     }
 }

@@ -26,10 +26,20 @@ fn demand_of(code: &[u8], next: usize, instruction: Instruction) -> Demand
     match Operation::of(instruction.opcode) {
         Some(operation) => {
             let effect = operation.effect(instruction);
-            let to = operation.flow().successors(code, next, instruction.argument);
-            Demand { takes: effect.takes, leaves: effect.leaves, to }
+            let to = operation
+                .flow()
+                .successors(code, next, instruction.argument);
+            Demand {
+                takes: effect.takes,
+                leaves: effect.leaves,
+                to,
+            }
         }
-        None => Demand { takes: 0, leaves: 0, to: [None, None] },
+        None => Demand {
+            takes: 0,
+            leaves: 0,
+            to: [None, None],
+        },
     }
 }
 
@@ -40,7 +50,11 @@ fn demand_at(code: &[u8], place: usize) -> Demand
     let mut reader = Reader::at(code, place);
     match reader.advance() {
         Ok((instruction, _)) => demand_of(code, reader.place, instruction),
-        Err(_) => Demand { takes: 0, leaves: 0, to: [None, None] },
+        Err(_) => Demand {
+            takes: 0,
+            leaves: 0,
+            to: [None, None],
+        },
     }
 }
 
@@ -69,7 +83,10 @@ pub fn examine(code: &[u8], limit: u8, heights: &mut [u8], waiting: &mut [u16]) 
 {
     heights[0] = 0;
     waiting[0] = 0;
-    let mut stack = Stack { cells: waiting, height: 1 };
+    let mut stack = Stack {
+        cells: waiting,
+        height: 1,
+    };
     'examine: loop {
         let Some(newest) = stack.pop() else {
             break None;
@@ -78,23 +95,35 @@ pub fn examine(code: &[u8], limit: u8, heights: &mut [u8], waiting: &mut [u16]) 
         let h = heights[place / 2];
         let demand = demand_at(code, place);
         if (h as u16) < demand.takes {
-            break Some(Fault { rule: Rule::HeightLow, place });
+            break Some(Fault {
+                rule: Rule::HeightLow,
+                place,
+            });
         }
         let after = h as u16 - demand.takes + demand.leaves as u16;
         if after > limit as u16 {
-            break Some(Fault { rule: Rule::HeightOver, place });
+            break Some(Fault {
+                rule: Rule::HeightOver,
+                place,
+            });
         }
         let height = after as u8;
         for to in demand.to {
             if let Some(s) = to {
                 if s >= code.len() {
-                    break 'examine Some(Fault { rule: Rule::CodeLeft, place });
+                    break 'examine Some(Fault {
+                        rule: Rule::CodeLeft,
+                        place,
+                    });
                 }
                 if heights[s / 2] == 255 {
                     heights[s / 2] = height;
                     let _ = stack.push(s as u16);
                 } else if heights[s / 2] != height {
-                    break 'examine Some(Fault { rule: Rule::HeightsDiffer, place: s });
+                    break 'examine Some(Fault {
+                        rule: Rule::HeightsDiffer,
+                        place: s,
+                    });
                 }
             }
         }

@@ -1,7 +1,9 @@
 // The encoding stage: the instructions in turn.
 ghost use mathlib.Core.Path.{_≡_};
 ghost use mathlib.Core.Bool.{false};
+ghost use Prim.Native.Nat.{_%_, _<_};
 ghost use lib.ListN.{length};
+ghost use Rattle.std.specs.Options.{Cases as BySome};
 ghost use denote.Ref.{now};
 ghost use Rattle.hosts.specs.Meaning.{marks-of};
 ghost use Rattle.parcels.specs.Parts.{parts};
@@ -42,7 +44,8 @@ fn pushes_literal(operation: Option<Operation>) -> bool
 fn pushes_block(literals: &[u8], instruction: Instruction) -> bool
     ensures { λ r. ⌜ r ≡ pushes-block (now (literals .entry)) instruction ⌝ }
 {
-    pushes_literal(Operation::of(instruction.opcode)) && is_block(literal_at(literals, instruction.argument))
+    pushes_literal(Operation::of(instruction.opcode))
+        && is_block(literal_at(literals, instruction.argument))
 }
 
 // The first fault of the instructions in turn.
@@ -54,9 +57,17 @@ fn sweep<H: Host>(host: &H, parcel: Parcel, trusted: bool) -> Option<Fault>
     while reader.place < parcel.code.len() {
         let place = reader.place;
         match reader.advance() {
-            Err(e) => return Some(Fault { rule: rule_of(e), place }),
+            Err(e) => return Some(Fault {
+                rule: rule_of(e),
+                place,
+            }),
             Ok((instruction, _)) => {
-                let site = Site { place, instruction, next: reader.place, after_block };
+                let site = Site {
+                    place,
+                    instruction,
+                    next: reader.place,
+                    after_block,
+                };
                 if let Some(fault) = site_fault(host, parcel, trusted, site) {
                     return Some(fault);
                 }
@@ -69,14 +80,21 @@ fn sweep<H: Host>(host: &H, parcel: Parcel, trusted: bool) -> Option<Fault>
 
 // The first fault of the encoding stage.
 pub fn encoding_fault<H: Host>(host: &H, parcel: Parcel, trusted: bool) -> Option<Fault>
-    ensures { λ r. ⌜ r ≡ encoding-fault (setting (parts (parcel .entry)) (marks-of (means (now (host .entry)))) trusted) ⌝ }
+    ensures whole { λ r. ⌜ BySome r ((0 < length (now (parcel .entry .code))) × (length (now (parcel .entry .code)) % 2 ≡ 0)) (λ _. Unit {0}) ⌝ }
+    ensures answer { λ r. ⌜ r ≡ encoding-fault (setting (parts (parcel .entry)) (marks-of (means (now (host .entry)))) trusted) ⌝ }
 {
     let length = parcel.code.len();
     if length == 0 {
-        return Some(Fault { rule: Rule::CodeCut, place: 0 });
+        return Some(Fault {
+            rule: Rule::CodeCut,
+            place: 0,
+        });
     }
     if length % 2 == 1 {
-        return Some(Fault { rule: Rule::CodeCut, place: length - 1 });
+        return Some(Fault {
+            rule: Rule::CodeCut,
+            place: length - 1,
+        });
     }
     sweep(host, parcel, trusted)
 }

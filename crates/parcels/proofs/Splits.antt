@@ -20,5 +20,6 @@ split-read b l e =
   where
     front : take (10 + 6 * l .literals - 10) (drop 10 b) ≡ take (6 * l .literals) (drop 10 b)
     front = ap (λ (n : ℕ). take n (drop 10 b)) (omega arith)
+
     back : take (length b - (10 + 6 * l .literals)) (drop (10 + 6 * l .literals) b) ≡ drop (10 + 6 * l .literals) b
     back = take-all _ _ (omega (arith, length-drop (10 + 6 * l .literals) b))

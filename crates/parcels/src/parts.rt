@@ -23,6 +23,10 @@ impl<'a> Parcel<'a> {
     {
         let layout = Layout::read(bytes)?;
         let code_start = 10 + 6 * layout.literals as usize;
-        Ok(Parcel { layout, literals: &bytes[10..code_start], code: &bytes[code_start..] })
+        Ok(Parcel {
+            layout,
+            literals: &bytes[10..code_start],
+            code: &bytes[code_start..],
+        })
     }
 }

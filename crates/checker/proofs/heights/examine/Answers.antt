@@ -30,7 +30,7 @@ taken c =
     subst (λ (n : ℕ). Taken (c .args .code .now) (c .args .limit) r (c .examine .heights) (c .pop .last .self .cells .now) n (c .in-Some .newest)) height
     (subst (λ (ws : List ℕ). Taken (c .args .code .now) (c .args .limit) r (c .examine .heights) ws (c .examine .stack .height - 1) (c .in-Some .newest)) cells
     (take (c .args .code .now) (c .args .limit) r (c .examine .heights) (c .examine .stack .cells .now) (c .examine .stack .height) (c .in-Some .newest) s (e .said .0)
-      (getD-read (c .examine .stack .cells .now) (c .examine .stack .height - 1) (c .in-Some .newest) (omega (arith, e .said .0, e .said .1)) (e .said .2) 0)))
+    (getD-read (c .examine .stack .cells .now) (c .examine .stack .height - 1) (c .in-Some .newest) (omega (arith, e .said .0, e .said .1)) (e .said .2) 0)))
 
 pub index-heights-place : need.index-heights-place
 index-heights-place c = taken (need.at·index-heights-place c .In-Some) .here
@@ -97,20 +97,24 @@ loop-to-again c =
     let d = c .demand-at-demand .result in
     let i : c .loop-to .to-index < length (d .to) = grind arith in
     elim (c .match-to .came) [
-      in-Some-to·else-s-code·then-heights-s w ↦
-        let is : getD (d .to) (c .loop-to .to-index) None ≡ Some (w .in-Some-to .s) = search needs in
-        let room : c .loop-to .stack .height < length (c .loop-to .stack .cells .now) = omega (arith, v .spare, v .ready .wide) in
-        let said : w .push .result ≡ true = w .push .ensures .said ∙ lt-ltb _ _ room in
-        let cells : w .push .last .self .cells .now ≡ set (c .loop-to .stack .cells .now) (c .loop-to .stack .height) (w .in-Some-to .s) = w .push .ensures .cells ∙ cond-true (w .push .result) _ _ said in
-        let height : w .push .last .self .height ≡ c .loop-to .stack .height + 1 = w .push .ensures .height ∙ cond-true (w .push .result) _ _ said in
-        let two : length (c .args .code .now) ≡ 2 * length (c .loop-to .heights) = omega (arith, c .loop-to .kept .heights, c .examine .kept .heights, length-set (c .args .heights .now) 0 0) in
-        (moved (w .heights-is) ((λ j. w .stack-is j .cells .now) ∙ cells) ((λ j. w .stack-is j .height) ∙ height)
-          (new v (w .in-Some-to .s) i is (w .if-s-code .left) two (w .if-heights-s .taken) (omega (arith, c .if-after-limit .left))), search needs)
-    | in-Some-to·else-s-code·else-heights-s·else-heights-s-2 w ↦
-        let is : getD (d .to) (c .loop-to .to-index) None ≡ Some (w .in-Some-to .s) = search needs in
-        (moved (w .heights-is) (λ j. w .stack-is j .cells .now) (λ j. w .stack-is j .height)
-          (known v (w .in-Some-to .s) i is (w .if-s-code .left) (w .if-heights-s .left) (w .if-heights-s-2 .left)), search needs)
-    | in-rest-to w ↦
-        let is : getD (d .to) (c .loop-to .to-index) None ≡ None = search needs in
-        (moved (w .heights-is) (λ j. w .stack-is j .cells .now) (λ j. w .stack-is j .height) (skip v i is), search needs)
+      | in-Some-to·else-s-code·then-heights-s w ↦
+          let is : getD (d .to) (c .loop-to .to-index) None ≡ Some (w .in-Some-to .s) = search needs in
+          let room : c .loop-to .stack .height < length (c .loop-to .stack .cells .now) = omega (arith, v .spare, v .ready .wide) in
+          let said : w .push .result ≡ true = w .push .ensures .said ∙ lt-ltb _ _ room in
+          let cells : w .push .last .self .cells .now ≡ set (c .loop-to .stack .cells .now) (c .loop-to .stack .height) (w .in-Some-to .s) = w .push .ensures .cells ∙ cond-true (w .push .result) _ _ said in
+          let height : w .push .last .self .height ≡ c .loop-to .stack .height + 1 = w .push .ensures .height ∙ cond-true (w .push .result) _ _ said in
+          let two : length (c .args .code .now) ≡ 2 * length (c .loop-to .heights) = omega (arith, c .loop-to .kept .heights, c .examine .kept .heights, length-set (c .args .heights .now) 0 0) in (
+            moved (w .heights-is) ((λ j. w .stack-is j .cells .now) ∙ cells) ((λ j. w .stack-is j .height) ∙ height)
+                (new v (w .in-Some-to .s) i is (w .if-s-code .left) two (w .if-heights-s .taken) (omega (arith, c .if-after-limit .left))),
+            search needs,
+          )
+      | in-Some-to·else-s-code·else-heights-s·else-heights-s-2 w ↦
+          let is : getD (d .to) (c .loop-to .to-index) None ≡ Some (w .in-Some-to .s) = search needs in (
+            moved (w .heights-is) (λ j. w .stack-is j .cells .now) (λ j. w .stack-is j .height)
+                (known v (w .in-Some-to .s) i is (w .if-s-code .left) (w .if-heights-s .left) (w .if-heights-s-2 .left)),
+            search needs,
+          )
+      | in-rest-to w ↦
+          let is : getD (d .to) (c .loop-to .to-index) None ≡ None = search needs in
+          (moved (w .heights-is) (λ j. w .stack-is j .cells .now) (λ j. w .stack-is j .height) (skip v i is), search needs)
     ]

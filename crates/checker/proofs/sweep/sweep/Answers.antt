@@ -33,12 +33,12 @@ returns-in-Err g c =
     let p = c .loop-reader .reader .place in
     ap (λ (r : Rule). Some (fault r p)) (c .rule-of .ensures)
     ∙ unread (c .in-Err .e)
-      (turn _ _ p (Err (c .in-Err .e)) (c .loop-reader .inv .0) (c .loop-reader-test .taken) (c .in-Err .ensures tt .reads ∙ ap (λ (l : List ℕ). read-at l p) code))
+    (turn _ _ p (Err (c .in-Err .e)) (c .loop-reader .inv .0) (c .loop-reader-test .taken) (c .in-Err .ensures tt .reads ∙ ap (λ (l : List ℕ). read-at l p) code))
 
 -- the turn at an instruction that is read
 read : (g : given.Over) (c : In-Ok g)
     → Turn (setting (parts (c .args .parcel)) (marks-of (g .H·Host .means (c .args .host .now))) (c .args .trusted)) (c .loop-reader .after-block) (c .loop-reader .reader .place)
-      (Ok (c .in-Ok .instruction, c .in-Ok .field-0-1 .now))
+    (Ok (c .in-Ok .instruction, c .in-Ok .field-0-1 .now))
 read g c =
     let p = c .loop-reader .reader .place in
     turn _ _ p (Ok (c .in-Ok .instruction, c .in-Ok .field-0-1 .now)) (c .loop-reader .inv .0) (c .loop-reader-test .taken)
@@ -66,11 +66,12 @@ loop-reader-again g c =
     let e = next g d in
     let b = c .pushes-block-after-block .ensures in
     let s = onward i (c .in-Ok .field-0-1 .now) (read g d)
-            (c .in-rest .ensures tt ∙ ap (λ (n : ℕ). site-fault x (record { place = p; instruction = i; next = n; «after_block» = c .loop-reader .after-block })) e)
-            (omega (arith, e, c .in-Ok .ensures tt .within .0))
-    in
-    (subst (λ (n : ℕ). Sofar x (c .pushes-block-after-block .result) n) (sym e) (subst (λ v. Sofar x v (p + 2 * i .pairs)) (sym b) s),
-     c .in-Ok .ensures tt .code ∙ c .loop-reader .inv .1)
+    (c .in-rest .ensures tt ∙ ap (λ (n : ℕ). site-fault x (record { place = p; instruction = i; next = n; «after_block» = c .loop-reader .after-block })) e)
+    (omega (arith, e, c .in-Ok .ensures tt .within .0))
+    in (
+      subst (λ (n : ℕ). Sofar x (c .pushes-block-after-block .result) n) (sym e) (subst (λ v. Sofar x v (p + 2 * i .pairs)) (sym b) s),
+      c .in-Ok .ensures tt .code ∙ c .loop-reader .inv .1,
+    )
 
 pub loop-reader-less : need.loop-reader-less
 loop-reader-less g c = omega (arith, c .in-Ok .ensures tt .within .0, c .in-Ok .ensures tt .within .1, ap length (c .loop-reader .inv .1))
