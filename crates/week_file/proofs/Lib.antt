@@ -1,0 +1,5 @@
+pub mod Pieces
+pub mod Accepting
+pub mod Rows
+pub mod Writes
+pub mod ReadBack
