@@ -69,13 +69,15 @@ twice false = refl
 cells-keep : (b : List ℕ) (o n : ℕ) → not (isSome (first (cell-tests b o n))) ≡ true → (k : ℕ) → k < n → keeps-rules (raw-at b (o + 6 * k)) ≡ true
 cells-keep b o zero e k h = absurd (not-suc-le-zero h)
 cells-keep b o (suc n) e zero h =
+    let q : o + 6 * 0 ≡ o = omega arith in
     let t = keeps-rules (raw-at b o) in
     let p = and-parts _ _ (sym (passes (not t) (fault CellWrong o) (first (cell-tests b (o + 6) n))) ∙ e) in
-    ap (λ q. keeps-rules (raw-at b q)) (omega arith) ∙ sym (twice t) ∙ p .0
+    ap (λ z. keeps-rules (raw-at b z)) q ∙ sym (twice t) ∙ p .0
 cells-keep b o (suc n) e (suc k) h =
+    let q : o + 6 * suc k ≡ o + 6 + 6 * k = omega arith in
     let t = keeps-rules (raw-at b o) in
     let p = and-parts _ _ (sym (passes (not t) (fault CellWrong o) (first (cell-tests b (o + 6) n))) ∙ e) in
-    ap (λ q. keeps-rules (raw-at b q)) (omega arith) ∙ cells-keep b (o + 6) n (p .1) k (le-of-suc-le-suc h)
+    ap (λ z. keeps-rules (raw-at b z)) q ∙ cells-keep b (o + 6) n (p .1) k (le-of-suc-le-suc h)
 
 cells-pass : (b : List ℕ) (o n : ℕ) → ((k : ℕ) → k < n → keeps-rules (raw-at b (o + 6 * k)) ≡ true) → not (isSome (first (cell-tests b o n))) ≡ true
 cells-pass b o zero h = refl

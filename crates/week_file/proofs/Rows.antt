@@ -12,15 +12,15 @@ use Rattle.std.specs.Options.{mapped, okOr}
 use Rattle.std.specs.shelf.Maps.{nth}
 use Rattle.std.specs.declared.option.Option.the-variants.{Some}
 use Rattle.std.specs.declared.result.Result.the-variants.{Ok, Err}
-use Rattle.std.proofs.shelf.Tests.{ltb-true, ltb-false}
+use Rattle.std.proofs.shelf.Tests.{ltb-true, ltb-false, lt-ltb, le-ltb, cond-true, cond-false}
 use Rattle.values.specs.Faults.{fault}
 use Rattle.values.specs.declared.faults.Fault.{Fault}
 use Rattle.values.specs.declared.faults.Rule.the-variants.{CellMissing}
 use Rattle.values.specs.declared.kinds.Value.{Value}
 use Rattle.hosts.specs.Meaning.{Cell, asked, put}
 use Rattle.hosts.proofs.Cells.{asked-past}
-use Rattle.week_file.specs.Cells.{raw-at, cell-of}
-use Rattle.week_file.specs.Files.{cells, place-in}
+use Rattle.week_file.specs.Cells.{raw-at, cell-of, written}
+use Rattle.week_file.specs.Files.{cells, place-in, row-written}
 
 pub length-cells : (b : List ℕ) (o n : ℕ) → length (cells b o n) ≡ n
 length-cells b o zero = refl
@@ -56,13 +56,23 @@ module _ (s n i : ℕ) where
   pub missing : (f : Fault) → Err f ≡ place-in s n i → Missing n i f
   missing f h = missing-by (ltb i n) f refl h
 
--- what is asked of cell i is said by its six bytes, or by the fault
-pub asked-found : {X : Type 0} (f : Cell → X) (b : List ℕ) (s n i p : ℕ) → Found s n i p → Ok (f (cell-of (raw-at b p))) ≡ asked f (cells b s n) i
-asked-found f b s n i p h =
-    ap (λ q. Ok (f (cell-of (raw-at b q)))) (h .begins) ∙ sym (ap (λ o. okOr (mapped f o) (fault CellMissing i)) (nth-cells b s n i (h .below)))
+  -- what is asked of cell i is said by its six bytes, or by the fault
+  pub asked-found : {X : Type 0} (f : Cell → X) (b : List ℕ) (p : ℕ) → Ok p ≡ place-in s n i → Ok (f (cell-of (raw-at b p))) ≡ asked f (cells b s n) i
+  asked-found f b p e =
+      let h = found p e in
+      ap (λ q. Ok (f (cell-of (raw-at b q)))) (h .begins) ∙ sym (ap (λ o. okOr (mapped f o) (fault CellMissing i)) (nth-cells b s n i (h .below)))
 
-pub asked-missing : {X : Type 0} (f : Cell → X) (b : List ℕ) (s n i : ℕ) (e : Fault) → Missing n i e → Err e ≡ asked f (cells b s n) i
-asked-missing f b s n i e h = ap Err (h .says) ∙ sym (asked-past f (cells b s n) i (omega (arith, h .past, length-cells b s n)))
+  pub asked-missing : {X : Type 0} (f : Cell → X) (b : List ℕ) (y : Fault) → Err y ≡ place-in s n i → Err y ≡ asked f (cells b s n) i
+  asked-missing f b y e =
+      let h = missing y e in
+      ap Err (h .says) ∙ sym (asked-past f (cells b s n) i (omega (arith, h .past, length-cells b s n)))
+
+  -- the bytes after a write to cell i
+  pub row-found : (b : List ℕ) (v : Value) (p : ℕ) → Found s n i p → written b p v ≡ row-written b s n i v
+  row-found b v p h = ap (λ q. written b q v) (h .begins) ∙ sym (cond-true (ltb i n) (written b (s + 6 * i) v) b (lt-ltb i n (h .below)))
+
+  pub row-missing : (b : List ℕ) (v : Value) (y : Fault) → Missing n i y → b ≡ row-written b s n i v
+  row-missing b v y h = sym (cond-false (ltb i n) (written b (s + 6 * i) v) b (le-ltb i n (h .past)))
 
 -- a value that is put into a cell
 pub nth-put : (cs : List Cell) (i : ℕ) (v : Value) (c : Cell) → nth cs i ≡ Some c → nth (put cs i v) i ≡ Some (record { trusted = c .trusted; value = v })

@@ -16,13 +16,14 @@ use Rattle.values.specs.declared.kinds.Value.{Value}
 use Rattle.values.specs.declared.kinds.Value.the-variants.{Nil, Object}
 use Rattle.values.proofs.Parts.{read-back}
 use Rattle.hosts.specs.Meaning.{Cell, Meaning, put, with-variable, with-binding}
+use Rattle.hosts.proofs.Cells.{put-past}
 use Rattle.week_file.specs.Cells.{raw-at, cell-of, five-bytes, written}
 use Rattle.week_file.specs.Files.{accepted, cells, variable-count, binding-count, binding-start, week-meaning, Cell-at}
 use Rattle.week_file.specs.Laws.{Sound, Week-file}
 use Rattle.week_file.specs.Replies.{replies}
 use Rattle.week_file.proofs.Pieces.{raw, same-raw}
 use Rattle.week_file.proofs.Accepting.{kept, accept}
-use Rattle.week_file.proofs.Rows.{Found}
+use Rattle.week_file.proofs.Rows.{Found, length-cells}
 
 -- bytes that agree from p on for n places
 abbrev Agree : List ℕ → List ℕ → ℕ → ℕ → Type 0
@@ -69,7 +70,9 @@ module _ (b : List ℕ) (o : ℕ) (v : Value) (h : o + 6 ≤ length b) where
       ∙ ap (at b) (omega arith)
 
   inside : (j k : ℕ) → k ≡ o + 1 + j → at (written b o v) k ≡ at (five-bytes v ++ drop (o + 6) b) j
-  inside j k e = past k (omega arith) ∙ ap (at (five-bytes v ++ drop (o + 6) b)) (omega arith)
+  inside j k e =
+      let q : k - (o + 1) ≡ j = omega arith in
+      past k (omega arith) ∙ ap (at (five-bytes v ++ drop (o + 6) b)) q
 
   number-here : be32 (written b o v) (o + 2) ≡ number-of v
   number-here =
@@ -161,20 +164,28 @@ counted : (t : Bool) (n i : ℕ) → i < cond t n 0 → (t ≡ true) × (i < n)
 counted true n i h = (refl, h)
 counted false n i h = absurd (not-suc-le-zero h)
 
-module _ (b : List ℕ) (i o : ℕ) where
-  pub variable-cell : Found 8 (variable-count b) i o → Cell-at b o
-  variable-cell f = let p = counted (accepted b) (be16 b 0) i (f .below) in (p .0, (i, omega (arith, p .1), f .begins))
+module _ (b : List ℕ) (i : ℕ) where
+  pub variable-cell : (o : ℕ) → Found 8 (variable-count b) i o → Cell-at b o
+  variable-cell o f = let p = counted (accepted b) (be16 b 0) i (f .below) in (p .0, (i, omega (arith, p .1), f .begins))
 
-  pub binding-cell : Found (binding-start b) (binding-count b) i o → Cell-at b o
-  binding-cell f =
+  pub binding-cell : (o : ℕ) → Found (binding-start b) (binding-count b) i o → Cell-at b o
+  binding-cell o f =
       let p = counted (accepted b) (be16 b 2) i (f .below) in
       let e : variable-count b ≡ be16 b 0 = ap (λ t. cond t (be16 b 0) 0) (p .0) in
       (p .0, (be16 b 0 + i, omega (arith, p .1), omega (arith, f .begins, e)))
 
+  -- a number that no variable or no binding has
+  pub variable-past : (v : Value) → variable-count b ≤ i → week-meaning b ≡ with-variable (week-meaning b) i v
+  variable-past v h = ap (λ xs. formed (week-meaning b .receiver) xs (week-meaning b .bindings)) (sym (put-past (week-meaning b .variables) i v (omega (arith, h, length-cells b 8 (variable-count b)))))
+
+  pub binding-past : (v : Value) → binding-count b ≤ i → week-meaning b ≡ with-binding (week-meaning b) i v
+  binding-past v h = ap (formed (week-meaning b .receiver) (week-meaning b .variables)) (sym (put-past (week-meaning b .bindings) i v (omega (arith, h, length-cells b (binding-start b) (binding-count b)))))
+
+module _ (b : List ℕ) (i o : ℕ) where
   -- a write of variable i, in the file's meaning
   pub variable-put : (v : Value) → Found 8 (variable-count b) i o → week-meaning (written b o v) ≡ with-variable (week-meaning b) i v
   variable-put v f =
-      let x = variable-cell f in
+      let x = variable-cell b i o f in
       laid b o v x
       ∙ ap (λ xs. formed (week-meaning b .receiver) xs (cells (written b o v) (binding-start b) (binding-count b))) (cells-put b o v (fits b o x) 8 (variable-count b) i (f .below) (f .begins))
       ∙ ap (formed (week-meaning b .receiver) (put (cells b 8 (variable-count b)) i v)) (same-cells b (written b o v) (binding-start b) (binding-count b) (λ k l m. after b o v (fits b o x) k (omega (arith, f .below, f .begins))))
@@ -182,7 +193,7 @@ module _ (b : List ℕ) (i o : ℕ) where
   -- a write of binding i
   pub binding-put : (v : Value) → Found (binding-start b) (binding-count b) i o → week-meaning (written b o v) ≡ with-binding (week-meaning b) i v
   binding-put v f =
-      let x = binding-cell f in
+      let x = binding-cell b i o f in
       laid b o v x
       ∙ ap (λ xs. formed (week-meaning b .receiver) xs (cells (written b o v) (binding-start b) (binding-count b))) (same-cells b (written b o v) 8 (variable-count b) (λ k l m. before b o v (fits b o x) k (omega (arith, f .begins))))
       ∙ ap (formed (week-meaning b .receiver) (cells b 8 (variable-count b))) (cells-put b o v (fits b o x) (binding-start b) (binding-count b) i (f .below) (f .begins))
