@@ -1,7 +1,7 @@
 // The file itself, as a host.
 ghost use mathlib.Core.Path.{_≡_};
 ghost use mathlib.Core.Bool.{cond};
-ghost use Prim.Native.Nat.{_≤_};
+ghost use Prim.Native.Nat.{_+_, _*_, _≤_};
 ghost use Rattle.std.specs.Of.Vec.{vec-items};
 ghost use Rattle.std.specs.declared.option.Option.the-variants.{Some, None};
 ghost use Rattle.hosts.specs.Meaning.{place-of, with-variable, with-binding, Answered};
@@ -45,6 +45,14 @@ fn place_of(start: usize, count: usize, i: usize) -> Result<usize, Fault>
     Ok(start + CELL * i)
 }
 
+// Where the bindings begin: after the header and the variables.
+fn bindings_after(variables: usize) -> usize
+    requires { ⌜ variables ≤ 1024 ⌝ }
+    ensures { λ r. ⌜ r ≡ 8 + 6 * variables ⌝ }
+{
+    HEADER + CELL * variables
+}
+
 impl WeekFile {
     // A host over these bytes. Where they are refused, its receiver is nil and it has no cells.
     pub fn open(bytes: Vec<u8>) -> WeekFile
@@ -79,11 +87,11 @@ impl WeekFile {
         place_of(HEADER, self.variable_count(), i)
     }
 
-    // Where binding i begins, after the variables.
+    // Where binding i begins.
     fn binding_place(&self, i: usize) -> Result<usize, Fault>
         ensures { λ r. ⌜ r ≡ place-in (binding-start (vec-items (now (self .entry) .bytes))) (binding-count (vec-items (now (self .entry) .bytes))) i ⌝ }
     {
-        place_of(HEADER + CELL * self.variable_count(), self.binding_count(), i)
+        place_of(bindings_after(self.variable_count()), self.binding_count(), i)
     }
 
     // Writes v into the cell that begins at `place`.
