@@ -108,9 +108,9 @@ module _ (b : List ℕ) where
   parts =
       passes short _ _
       ∙ ap (λ x. not short && x)
-        (passes many-variables _ _
-        ∙ ap (λ x. not many-variables && x)
-          (passes many-bindings _ _ ∙ ap (λ x. not many-bindings && x) (passes (not fitting) _ _)))
+      (passes many-variables _ _
+      ∙ ap (λ x. not many-variables && x)
+      (passes many-bindings _ _ ∙ ap (λ x. not many-bindings && x) (passes (not fitting) _ _)))
 
   pub kept : accepted b ≡ true → Week-file b
   kept e =
@@ -130,10 +130,10 @@ module _ (b : List ℕ) where
   accept w =
       parts
       ∙ and-from _ _ (not-from-false _ (le-ltb _ _ (w .header)))
-        (and-from _ _ (not-from-false _ (le-ltb _ _ (w .few-variables)))
-        (and-from _ _ (not-from-false _ (le-ltb _ _ (w .few-bindings)))
-        (and-from _ _ (twice fitting ∙ eq-eqb _ _ (w .ends))
-        (cells-pass b 8 (be16 b 0 + be16 b 2) (λ k h. sound-to (raw-at b (8 + 6 * k)) (w .sound k h))))))
+      (and-from _ _ (not-from-false _ (le-ltb _ _ (w .few-variables)))
+      (and-from _ _ (not-from-false _ (le-ltb _ _ (w .few-bindings)))
+      (and-from _ _ (twice fitting ∙ eq-eqb _ _ (w .ends))
+      (cells-pass b 8 (be16 b 0 + be16 b 2) (λ k h. sound-to (raw-at b (8 + 6 * k)) (w .sound k h))))))
 
 pub accepts-exactly : Accepts-exactly
 accepts-exactly b = (kept b, accept b)

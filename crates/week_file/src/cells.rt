@@ -8,8 +8,10 @@ use values::Value;
 // How many bytes a cell takes.
 pub(crate) const CELL: usize = 6;
 
-// The marks of a cell.
+// The mark of an open cell.
 const OPEN: u8 = 0;
+
+// The mark of a trusted cell.
 const TRUSTED: u8 = 1;
 
 // What the six bytes of a cell say, right or wrong.

@@ -77,7 +77,11 @@ impl WeekFile {
     fn header(&self) -> Option<Header>
         ensures { λ r. ⌜ r ≡ cond (accepted (vec-items (now (self .entry) .bytes))) (Some (header-of (vec-items (now (self .entry) .bytes)))) None ⌝ }
     {
-        if self.good { Header::read(&self.bytes) } else { None }
+        if self.good {
+            Header::read(&self.bytes)
+        } else {
+            None
+        }
     }
 
     // Where variable i begins.
@@ -91,7 +95,11 @@ impl WeekFile {
     fn binding_place(&self, i: usize) -> Result<usize, Fault>
         ensures { λ r. ⌜ r ≡ place-in (binding-start (vec-items (now (self .entry) .bytes))) (binding-count (vec-items (now (self .entry) .bytes))) i ⌝ }
     {
-        place_of(bindings_after(self.variable_count()), self.binding_count(), i)
+        place_of(
+            bindings_after(self.variable_count()),
+            self.binding_count(),
+            i,
+        )
     }
 
     // Writes v into the cell that begins at `place`.

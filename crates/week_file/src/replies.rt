@@ -5,12 +5,19 @@ ghost use Rattle.week_file.specs.Replies.{truth, same-value, replies};
 use hosts::Message;
 use values::Value;
 
-// The selectors that it understands.
+// Whether the receiver is nil.
 const IS_NIL: u32 = 20;
+
+// Whether it is anything else.
 const NOT_NIL: u32 = 21;
+
+// Whether it is the same as the argument.
 const SAME: u32 = 24;
+
+// Nil, whatever the receiver is.
 const ANSWER_NIL: u32 = 25;
 
+// True or false, as a value.
 fn truth_value(b: bool) -> Value
     ensures { λ r. ⌜ r ≡ truth b ⌝ }
 {

@@ -7,11 +7,11 @@ pub loop-k-again : need.loop-k-again
 loop-k-again c =
     c .loop-k .inv
     ∙ search-next (c .args .bytes .now) (c .args .count) (c .loop-k .k) (c .loop-k-test .taken)
-      (sym (c .keeps-rules .ensures ∙ ap keeps-rules (c .read .ensures)) ∙ c .if-not-keeps-rules .left)
+    (sym (c .keeps-rules .ensures ∙ ap keeps-rules (c .read .ensures)) ∙ c .if-not-keeps-rules .left)
 
 pub returns-then-not-keeps-rules : need.returns-then-not-keeps-rules
 returns-then-not-keeps-rules c =
     sym
     (c .loop-k .inv
     ∙ search-here (c .args .bytes .now) (c .args .count) (c .loop-k .k) (c .loop-k-test .taken)
-      (sym (c .keeps-rules .ensures ∙ ap keeps-rules (c .read .ensures)) ∙ c .if-not-keeps-rules .taken))
+    (sym (c .keeps-rules .ensures ∙ ap keeps-rules (c .read .ensures)) ∙ c .if-not-keeps-rules .taken))
