@@ -1,9 +1,9 @@
 -- The search for a cell that breaks its rules, and what an accepted file keeps.
-use mathlib.Core.Path.{_≡_, refl, sym, ap, subst, _∙_}
+use mathlib.Core.Path.{_≡_, refl, sym, ap, _∙_}
 use mathlib.Core.Logic.{_⊎_, inl, inr}
 use mathlib.Core.Bool.{Bool, true, false, cond, not, _&&_, _||_}
-use mathlib.Core.List.{List, [], _∷_}
-use Prim.Native.Nat.{ℕ, zero, suc, suc-le-suc, _+_, _-_, _*_, _<_, _≤_}
+use mathlib.Core.List.{List}
+use Prim.Native.Nat.{ℕ, zero, suc, suc-le-suc, _+_, _-_, _*_, _<_}
 use native.Mathlib.Omega.{arith}
 use native.Mathlib.Nat.{le-of-suc-le-suc, not-suc-le-zero}
 use lib.Dec.{eqb, ltb}
@@ -11,13 +11,12 @@ use lib.ListN.{length}
 use Rattle.std.specs.Options.{isSome}
 use Rattle.std.specs.declared.option.Option.{Option}
 use Rattle.std.specs.declared.option.Option.the-variants.{Some, None}
-use Rattle.std.proofs.shelf.Tests.{and-parts, and-from, or-cases, or-left, or-right, eqb-true, eq-eqb, not-true, not-false, not-from-false, not-from-true, ltb-false, le-ltb}
+use Rattle.std.proofs.shelf.Tests.{and-parts, and-from, or-cases, or-left, or-right, eqb-true, eq-eqb, not-true, not-from-false, ltb-false, le-ltb}
 use Rattle.values.specs.Bytes.{be16}
 use Rattle.values.specs.Faults.{fault}
 use Rattle.values.specs.Order.{first}
 use Rattle.values.specs.declared.faults.Fault.{Fault}
 use Rattle.values.specs.declared.faults.Rule.the-variants.{CellWrong}
-use Rattle.values.specs.declared.kinds.Value.{Value}
 use Rattle.week_file.specs.declared.cells.RawCell.{RawCell}
 use Rattle.week_file.specs.Cells.{raw-at, value-in, keeps-rules}
 use Rattle.week_file.specs.Files.{cell-tests, accepted}

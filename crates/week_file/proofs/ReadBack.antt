@@ -14,7 +14,7 @@ use Rattle.hosts.specs.Meaning.{Cell, Meaning, put, with-variable, with-binding
 use Rattle.week_file.specs.Cells.{raw-at, cell-of, written}
 use Rattle.week_file.specs.Files.{cells, variable-count, binding-count, binding-start, week-meaning, variable-written, binding-written}
 use Rattle.week_file.specs.Laws.{Reads-back, Variables-read-back, Bindings-read-back}
-use Rattle.week_file.proofs.Rows.{Found, nth-cells, nth-put, nth-put-other}
+use Rattle.week_file.proofs.Rows.{nth-cells, nth-put, nth-put-other}
 use Rattle.week_file.proofs.Writes.{variable-put, binding-put}
 
 put-back : (cs : List Cell) (i : ℕ) (v : Value) (c : Cell) → nth cs i ≡ Some c → Reads-back cs (put cs i v) i v

@@ -1,8 +1,8 @@
-use mathlib.Core.Path.{_≡_, ap, _∙_}
+use mathlib.Core.Path.{ap, _∙_}
 use Prim.Native.Nat.{_+_, _*_}
 use native.Mathlib.Omega.{arith}
 use Rattle.std.specs.Of.Vec.{vec-items}
-use Rattle.week_file.specs.Files.{variable-count, binding-count, binding-start, place-in}
+use Rattle.week_file.specs.Files.{binding-start, place-in}
 use Rattle.week_file.proofs.Counts.{few, length-variables, length-bindings}
 use Rattle.week_file.proofs.file.WeekFile.binding_place.Needs as need
 

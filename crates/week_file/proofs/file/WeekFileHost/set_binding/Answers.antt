@@ -1,6 +1,6 @@
-use mathlib.Core.Path.{ap, sym, _∙_}
+use mathlib.Core.Path.{ap, _∙_}
 use Rattle.std.specs.Of.Vec.{vec-items}
-use Rattle.std.specs.declared.result.Result.the-variants.{Ok, Err}
+use Rattle.std.specs.declared.result.Result.the-variants.{Err}
 use Rattle.std.proofs.shelf.Results.{err-from-errBy}
 use Rattle.hosts.specs.Meaning.{Cell}
 use Rattle.week_file.specs.Files.{binding-start, binding-count, week-meaning}
