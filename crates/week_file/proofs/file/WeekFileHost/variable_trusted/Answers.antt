@@ -1,0 +1,30 @@
+use mathlib.Core.Path.{ap, _∙_}
+use native.Mathlib.Omega.{arith}
+use lib.ListN.{length}
+use Rattle.std.specs.Of.Vec.{vec-items}
+use Rattle.std.specs.declared.result.Result.the-variants.{Ok, Err}
+use Rattle.std.proofs.shelf.Results.{err-from-errBy}
+use Rattle.hosts.specs.Meaning.{Cell}
+use Rattle.week_file.specs.Cells.{raw-at, cell-of}
+use Rattle.week_file.specs.Files.{variable-count}
+use Rattle.week_file.proofs.Rows.{found, asked-found, asked-missing}
+use Rattle.week_file.proofs.Writes.{fits, variable-cell}
+use Rattle.week_file.proofs.file.WeekFileHost.variable_trusted.Needs as need
+
+pub read-requires : need.read-requires
+read-requires c κs =
+    let b = vec-items (c .args .self .now .bytes) in
+    let f = found 8 (variable-count b) (c .args .i) (c .in-Continue-place .place) (c .in-Continue-place .ensures tt) in
+    omega (arith, fits b (c .in-Continue-place .place) (variable-cell b (c .args .i) (c .in-Continue-place .place) f), ap length (c .deref .ensures .value))
+
+pub returns : need.returns
+returns c =
+    let b = vec-items (c .args .self .now .bytes) in
+    ap Ok (c .trusted .ensures ∙ ap (λ x. cell-of x .trusted) (c .read .ensures ∙ ap (λ l. raw-at l (c .in-Continue-place .place)) (c .deref .ensures .value)))
+    ∙ asked-found 8 (variable-count b) (c .args .i) (λ (x : Cell). x .trusted) b (c .in-Continue-place .place) (c .in-Continue-place .ensures tt)
+
+pub returns-in-Break-place : need.returns-in-Break-place
+returns-in-Break-place c =
+    let b = vec-items (c .args .self .now .bytes) in
+    let p = err-from-errBy (c .from-residual .result) (c .from-residual .ensures .1) in
+    p .1 ∙ ap Err (p .2) ∙ asked-missing 8 (variable-count b) (c .args .i) (λ (x : Cell). x .trusted) b (c .in-Break-place .field-0 .0) (c .in-Break-place .ensures tt)

@@ -1,0 +1,5 @@
+pub mod Cells
+pub mod Headers
+pub mod Replies
+pub mod Files
+pub mod Laws
