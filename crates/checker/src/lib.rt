@@ -1,7 +1,4 @@
-// The check of a parcel: every rule in the fixed order, and the heights of its places.
+// The check of a parcel, and what its verdict means.
 mod checking;
-mod encoding;
-mod heights;
-mod sweep;
 
 pub use checking::check;

@@ -11,7 +11,7 @@ use Rattle.values.specs.declared.faults.Fault.{Fault}
 use Rattle.values.specs.declared.faults.Rule.the-variants.{HeightLow, CodeLeft, HeightsDiffer, LandingWrong, StoreTrusted}
 use Rattle.hosts.specs.Meaning.{Marks, marks-of}
 use Rattle.week_file.specs.Files.{week-meaning}
-use Rattle.checker.specs.Check.{checked}
+use Rattle.stages.specs.Check.{checked}
 use Rattle.listing.specs.declared.verdicts.Verdict.{Verdict}
 use Rattle.listing.specs.declared.verdicts.Verdict.the-variants.{Accepted, Refused}
 

@@ -1,7 +1,0 @@
-use mathlib.Core.Path.{_∙_}
-use denote.Ref.{now}
-use Rattle.checker.proofs.Trust.{marks-length}
-use Rattle.checker.proofs.checking.count_bindings.Needs as need
-
-pub returns : need.returns
-returns g c = c .binding-count .ensures ∙ marks-length (g .H·Host .means (now (c .args .host)) .bindings)

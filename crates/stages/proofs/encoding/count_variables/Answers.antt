@@ -1,0 +1,7 @@
+use mathlib.Core.Path.{_∙_}
+use denote.Ref.{now}
+use Rattle.stages.proofs.Trust.{marks-length}
+use Rattle.stages.proofs.encoding.count_variables.Needs as need
+
+pub returns : need.returns
+returns g c = c .variable-count .ensures ∙ marks-length (g .H·Host .means (now (c .args .host)) .variables)
