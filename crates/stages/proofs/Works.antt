@@ -28,7 +28,7 @@ abbrev pub blanks : List ℕ → ℕ
 blanks [] = 0
 blanks (x ∷ xs) = cond (eqb x 255) 1 0 + blanks xs
 
-blanks-set : (xs : List ℕ) (i a : ℕ) → i < length xs → getD xs i 0 ≡ 255 → a < 255 → blanks (set xs i a) + 1 ≡ blanks xs
+pub blanks-set : (xs : List ℕ) (i a : ℕ) → i < length xs → getD xs i 0 ≡ 255 → a < 255 → blanks (set xs i a) + 1 ≡ blanks xs
 blanks-set [] i a h e l = absurd (not-suc-le-zero h)
 blanks-set (x ∷ xs) zero a h e l = omega (arith, cond-true {A = ℕ} (eqb x 255) 1 0 (eq-eqb x 255 e), cond-false {A = ℕ} (eqb a 255) 1 0 (ne-eqb a 255 (λ q. omega arith)))
 blanks-set (x ∷ xs) (suc i) a h e l = omega (arith, blanks-set xs i a (le-of-suc-le-suc h) e l)
@@ -41,7 +41,7 @@ blanks-le (x ∷ xs) = by (eqb x 255) (blanks-le xs)
     by true h = omega arith
     by false h = omega arith
 
-blanks-first : (xs : List ℕ) → 0 < length xs → blanks (set xs 0 0) + 1 ≤ length xs
+pub blanks-first : (xs : List ℕ) → 0 < length xs → blanks (set xs 0 0) + 1 ≤ length xs
 blanks-first [] h = absurd (not-suc-le-zero h)
 blanks-first (x ∷ xs) h = omega (arith, blanks-le xs)
 
