@@ -1,3 +1,5 @@
 pub mod Demands
 pub mod Visiting
 pub mod Examining
+pub mod Readings
+pub mod Orders
