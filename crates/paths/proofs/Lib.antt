@@ -3,3 +3,6 @@ pub mod Visiting
 pub mod Examining
 pub mod Readings
 pub mod Orders
+pub mod Sweeping
+pub mod Walking
+pub mod Verdict
