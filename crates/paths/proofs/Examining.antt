@@ -17,14 +17,15 @@ use Rattle.values.specs.Faults.{fault}
 use Rattle.values.specs.Order.{and-then}
 use Rattle.values.specs.declared.faults.Fault.{Fault}
 use Rattle.values.specs.declared.faults.Rule.the-variants.{HeightLow, HeightOver, CodeLeft, HeightsDiffer}
-use Rattle.parcels.specs.Opcodes.{effect-of, after}
+use Rattle.parcels.specs.Opcodes.{effect-of, after, flow-of}
 use Rattle.parcels.specs.declared.opcodes.Operation.{Operation}
 use Rattle.parcels.specs.declared.reading.Instruction.{Instruction}
 use Rattle.stages.specs.Examination.{nothing, demanded, demand-of, height-after, Work, visits, examines, turn, runs, examined}
 use Rattle.stages.specs.declared.heights.Demand.{Demand}
 use Rattle.stages.proofs.Works.{blanks, blanks-set, blanks-first}
 use Rattle.paths.specs.Paths.{Stands, Among, successors, Path, begins, goes-on, Keeps-heights, Breaks, low, over, leaves, differ}
-use Rattle.paths.proofs.Demands.{stands-demand, Asked, some, none, asked, led, successor-even}
+use Rattle.paths.proofs.Demands.{stands-demand, Asked, some, none, asked, led, start-below, successor-is, successor-even}
+use Rattle.paths.proofs.Readings.{spans}
 use Rattle.paths.proofs.Visiting as visiting
 use Rattle.paths.proofs.Visiting.{byte, Has, In, Visited, Ends, visit-ends}
 
@@ -131,7 +132,13 @@ module _ (code : List ℕ) (limit : ℕ) (small : limit < 255) where
       visited : {r : Result Work Fault} → Path code p (byte hs p) → demand-of code p .takes ≤ byte hs p → height-after (demand-of code p) (byte hs p) ≤ limit → p % 2 ≡ 0
           → Ends (length code) p (height-after (demand-of code p) (byte hs p)) (demand-of code p .to) hs ws r → Result-is code limit (and-then r rest)
       visited here need within e (visiting.goes {w} v) = more w (turned hs ws p w k need within v) (v .count)
-      visited here need within e (visiting.leaves s m h) = let t = led code p s m in broken (fault CodeLeft p) (leaves here (t .2) (t .3) h)
+      visited here need within e (visiting.leaves s m h) =
+          let t = led code p s m in
+          let end : s ≡ length code = elim (successor-is code (flow-of (t .1)) (p + 2 * t .0 .pairs) (t .0 .argument) s (t .3)) [
+              inl q ↦ absurd (omega (arith, start-below code s q, h))
+              | inr q ↦ omega (arith, q, spans code p (t .0) (t .2 .rest) (t .2 .read) .fits, h)
+            ] in
+          broken (fault CodeLeft p) (leaves here (t .2) (subst (λ (x : ℕ). Among x (successors code p (t .0) (t .1))) end (t .3)))
       visited here need within e (visiting.differs s m h has ne) =
           let t = led code p s m in
           let there = k .sound s (successor-even code p s (t .0) (t .1) e (t .3)) h has in

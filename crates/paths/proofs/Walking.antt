@@ -58,7 +58,9 @@ module _ (code : List ℕ) (limit : ℕ) (hs : List ℕ) (small : limit < 255) (
     within = λ {p} {h} {i} {o} path t.
       let w = walked path in
       subst (λ (x : ℕ). after (effect-of o i) x ≤ limit) (w .at) (subst (λ (d : Demand). height-after d (byte hs p) ≤ limit) (stands-demand t) (w .done .within));
-    inside = λ {p} {h} {s} {i} {o} path t m. (walked path) .done .next s (subst (λ (x : Demand). Among s (x .to)) (sym (stands-demand t)) m) .0;
+    inside = λ {p} {h} {i} {o} path t m.
+      let n = (walked path) .done .next (length code) (subst (λ (x : Demand). Among (length code) (x .to)) (sym (stands-demand t)) m) .0 in
+      omega arith;
     one = λ path other. sym ((walked path) .at) ∙ (walked other) .at;
   }
 
@@ -151,5 +153,5 @@ heights-are code limit g rest small pos even k =
 pub refutes : {code : List ℕ} {limit : ℕ} {f : Fault} → Breaks code limit f → Keeps-heights code limit → ⊥
 refutes (low path t h) k = let n = k .need path t in omega arith
 refutes (over path t h) k = let n = k .within path t in omega arith
-refutes (leaves path t m h) k = let n = k .inside path t m in omega arith
+refutes (leaves path t m) k = k .inside path t m
 refutes (differ path other ne) k = ne (k .one path other)

@@ -36,16 +36,16 @@ pub data Path (code : List ℕ) : ℕ → ℕ → Type 0 where
   begins : Path code 0 0
   goes-on : {p h s : ℕ} {i : Instruction} {o : Operation} → Path code p h → Stands code p i o → Among s (successors code p i o) → Path code s (after (effect-of o i) h)
 
--- the height rules, along every path
+-- the height rules, along every path: the need is met, the height after is within the limit, no successor is the end of the code, and a place has one height
 pub record Keeps-heights (code : List ℕ) (limit : ℕ) : Type 0 where
   pub need : {p h : ℕ} {i : Instruction} {o : Operation} → Path code p h → Stands code p i o → effect-of o i .takes ≤ h
   pub within : {p h : ℕ} {i : Instruction} {o : Operation} → Path code p h → Stands code p i o → after (effect-of o i) h ≤ limit
-  pub inside : {p h s : ℕ} {i : Instruction} {o : Operation} → Path code p h → Stands code p i o → Among s (successors code p i o) → s < length code
+  pub inside : {p h : ℕ} {i : Instruction} {o : Operation} → Path code p h → Stands code p i o → Among (length code) (successors code p i o) → ⊥
   pub one : {p h k : ℕ} → Path code p h → Path code p k → h ≡ k
 
--- a path breaks a height rule: the height below the need, the height after above the limit, a successor at the end of the code, a place at two heights
+-- a path breaks the height rule of a fault there
 pub data Breaks (code : List ℕ) (limit : ℕ) : Fault → Type 0 where
   low : {p h : ℕ} {i : Instruction} {o : Operation} → Path code p h → Stands code p i o → h < effect-of o i .takes → Breaks code limit (fault HeightLow p)
   over : {p h : ℕ} {i : Instruction} {o : Operation} → Path code p h → Stands code p i o → limit < after (effect-of o i) h → Breaks code limit (fault HeightOver p)
-  leaves : {p h s : ℕ} {i : Instruction} {o : Operation} → Path code p h → Stands code p i o → Among s (successors code p i o) → length code ≤ s → Breaks code limit (fault CodeLeft p)
+  leaves : {p h : ℕ} {i : Instruction} {o : Operation} → Path code p h → Stands code p i o → Among (length code) (successors code p i o) → Breaks code limit (fault CodeLeft p)
   differ : {p h k : ℕ} → Path code p h → Path code p k → (h ≡ k → ⊥) → Breaks code limit (fault HeightsDiffer p)

@@ -7,7 +7,7 @@ use lib.ListN.{length, getD}
 use Rattle.std.specs.declared.result.Result.{Result}
 use Rattle.std.specs.declared.result.Result.the-variants.{Ok, Err}
 use Rattle.values.specs.declared.faults.Fault.{Fault}
-use Rattle.hosts.specs.Meaning.{Marks}
+use Rattle.hosts.specs.Meaning.{Marks, Meaning, marks-of}
 use Rattle.parcels.specs.Layouts.{kind, literal-count, flags, code-length, header-tests, flag-tests, laid-out, limit-of}
 use Rattle.parcels.specs.Literals.{literal-tests}
 use Rattle.parcels.specs.Parts.{Parts, split}
@@ -72,3 +72,7 @@ pub record Verdict-means (m : Marks) (t : Bool) (b : List ℕ) (h w : ℕ) (c : 
 -- every verdict has its meaning
 abbrev pub Every-verdict-means : Type 0
 Every-verdict-means = (m : Marks) (t : Bool) (b hs ws : List ℕ) → Verdict-means m t b (length hs) (length ws) (checked m t b hs ws)
+
+-- kinds of values are not judged: hosts with the same marks, whatever their cells hold and their messages answer, get the same answer and heights
+abbrev pub Kinds-are-not-judged : Type 0
+Kinds-are-not-judged = (m n : Meaning) → marks-of m ≡ marks-of n → (t : Bool) (b hs ws : List ℕ) → checked (marks-of m) t b hs ws ≡ checked (marks-of n) t b hs ws
