@@ -19,6 +19,8 @@ pub use literals::literal_at;
 pub use opcodes::Direction;
 pub use opcodes::Effect;
 pub use opcodes::Ending;
+pub use opcodes::EndingDebug;
+pub use opcodes::EndingPartialEq;
 pub use opcodes::Flow;
 pub use opcodes::Operation;
 pub use opcodes::Source;

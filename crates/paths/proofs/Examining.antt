@@ -135,9 +135,9 @@ module _ (code : List ℕ) (limit : ℕ) (small : limit < 255) where
       visited here need within e (visiting.leaves s m h) =
           let t = led code p s m in
           let end : s ≡ length code = elim (successor-is code (flow-of (t .1)) (p + 2 * t .0 .pairs) (t .0 .argument) s (t .3)) [
-              inl q ↦ absurd (omega (arith, start-below code s q, h))
-              | inr q ↦ omega (arith, q, spans code p (t .0) (t .2 .rest) (t .2 .read) .fits, h)
-            ] in
+            | inl q ↦ absurd (omega (arith, start-below code s q, h))
+            | inr q ↦ omega (arith, q, spans code p (t .0) (t .2 .rest) (t .2 .read) .fits, h)
+          ] in
           broken (fault CodeLeft p) (leaves here (t .2) (subst (λ (x : ℕ). Among x (successors code p (t .0) (t .1))) end (t .3)))
       visited here need within e (visiting.differs s m h has ne) =
           let t = led code p s m in

@@ -133,6 +133,7 @@ length-kept l s = let a = eqb-false l 0 (s .0) in let b = eqb-false (l % 2) 1 (s
     above : (l : ℕ) → (l ≡ 0 → ⊥) → 0 < l
     above zero a = absurd (a refl)
     above (suc l) a = omega arith
+
     even : (l : ℕ) → (l % 2 ≡ 1 → ⊥) → l % 2 ≡ 0
     even l b = rest (l % 2) (omega arith) b
       where
@@ -181,12 +182,22 @@ rules-silent x p b i rest read tells k =
     subst (λ (j : Instruction). Silent (site-tests x (site p b j) (operation-of (j .opcode)))) same all
   where
     known : Silent (operation-tests x (site p b (k .instruction)) (k .operation))
-    known = (k .operand,
-      (false-and _ _ (k .clear),
-      (false-and _ _ (λ q. k .unmarked (not-true (x .trusted) q)),
-      (false-and _ _ (λ q. true-not _ (k .returns q)),
-      (k .lands,
-      (false-and _ _ (λ q. true-not _ (tells (k .closure q))), tt))))))
+    known = (
+      k .operand,
+      (
+        false-and _ _ (k .clear),
+        (
+          false-and _ _ (λ q. k .unmarked (not-true (x .trusted) q)),
+          (
+            false-and _ _ (λ q. true-not _ (k .returns q)),
+            (
+              k .lands,
+              (false-and _ _ (λ q. true-not _ (tells (k .closure q))), tt),
+            ),
+          ),
+        ),
+      ),
+    )
       where
         not-true : (t : Bool) → not t ≡ true → t ≡ false
         not-true true q = let z : _≡_ {A = ℕ} 0 1 = cc in absurd (omega arith)

@@ -98,8 +98,10 @@ module _ {code : List ℕ} {p pairs : ℕ} (s : Spans code p pairs) (even : p % 
     where
       halved : (q : ℕ) → p < q → q % 2 ≡ 0 → (j : ℕ) × (q ≡ p + 2 * j + 2)
       halved q l e = ((q - p) / 2 - 1, omega (arith, e))
+
       back : (j : ℕ) → q ≡ p + 2 * j + 2 → q - 2 ≡ p + 2 * j
       back j e = omega arith
+
       not-after : (a b c d : Bool) → c ≡ true → d ≡ true → (a && (b && not (c && d))) ≡ true → ⊥
       not-after true true true true f g e = let z : _≡_ {A = ℕ} 0 1 = cc in omega arith
       not-after true true true false f g e = let z : _≡_ {A = ℕ} 0 1 = cc in omega arith

@@ -45,17 +45,17 @@ module _ (x : Setting) where
         let there = spans (x .parts .code) (a .place) (a .instruction) (a .rest) (a .read) in
         let n = a .next in
         let is : a .place ≡ p = elim (cases-order (a .place) p) [
-            inl e ↦ e
-            | inr (inl l) ↦ absurd (none-inside there (start-even (x .parts .code) (a .place) (a .starts)) p l (omega (arith, here .some, n)) starts)
-            | inr (inr l) ↦ absurd (none-inside here even (a .place) l (omega (arith, there .some, n)) (a .starts))
-          ] in
+          | inl e ↦ e
+          | inr (inl l) ↦ absurd (none-inside there (start-even (x .parts .code) (a .place) (a .starts)) p l (omega (arith, here .some, n)) starts)
+          | inr (inr l) ↦ absurd (none-inside here even (a .place) l (omega (arith, there .some, n)) (a .starts))
+        ] in
         let same = same-read (x .parts .code) p (a .instruction) i (a .rest) rest (subst (λ (q : ℕ). read-at (x .parts .code) q ≡ Ok (a .instruction, a .rest)) is (a .read)) read in
         subst (λ (j : Instruction). pushes-block (x .parts .literals) j ≡ true) same (a .pushes)
 
     -- what starts from p on is this instruction, or lies behind it
     behind : (q : ℕ) → p ≤ q → starts-at (x .parts .code) q ≡ true → (q ≡ p) ⊎ (p + 2 * i .pairs ≤ q)
     behind q l s = elim (cases-order q p) [
-      inl e ↦ inl e
+      | inl e ↦ inl e
       | inr (inl h) ↦ absurd (omega arith)
       | inr (inr h) ↦ elim (cases-lt q (p + 2 * i .pairs)) [ inl g ↦ absurd (none-inside (spans (x .parts .code) p i rest read) even q h g s) | inr g ↦ inr g ]
     ]
@@ -71,22 +71,24 @@ module _ (x : Setting) where
   found zero b p h s to from = past p (omega arith)
   found (suc n) b p h s to from = by (leb (length (x .parts .code)) p) refl
       (λ i rest read starts.
-        found n (pushes-block (x .parts .literals) i) (p + 2 * i .pairs)
-        (omega (arith, h, spans (x .parts .code) p i rest read .some))
-        (next-starts (spans (x .parts .code) p i rest read) (start-even (x .parts .code) p starts))
-        (λ e. record { place = p; instruction = i; rest = rest; starts = starts; read = read; next = refl; pushes = e })
-        (before p starts i rest read))
+      found n (pushes-block (x .parts .literals) i) (p + 2 * i .pairs)
+      (omega (arith, h, spans (x .parts .code) p i rest read .some))
+      (next-starts (spans (x .parts .code) p i rest read) (start-even (x .parts .code) p starts))
+      (λ e. record { place = p; instruction = i; rest = rest; starts = starts; read = read; next = refl; pushes = e })
+      (before p starts i rest read))
     where
       tested : (i : Instruction) (rest : List ℕ) → read-at (x .parts .code) p ≡ Ok (i, rest) → starts-at (x .parts .code) p ≡ true
           → Found x (p + 2 * i .pairs) (swept x n (pushes-block (x .parts .literals) i) (p + 2 * i .pairs))
           → (o : Option Fault) → first (site-tests x (site p b i) (operation-of (i .opcode))) ≡ o → Found x p (or-else o (swept x n (pushes-block (x .parts .literals) i) (p + 2 * i .pairs)))
       tested i rest read starts further (Some f) e = stops p (omega arith) starts (λ r l g t. absurd (omega arith)) (breaks i rest b f read to from (first-some _ f e))
       tested i rest read starts further None e = onward p starts i rest read (rules-kept x p b i rest read to (first-none _ e)) further
+
       reading : (r : Reading) → read-at (x .parts .code) p ≡ r → starts-at (x .parts .code) p ≡ true
           → ((i : Instruction) (rest : List ℕ) → read-at (x .parts .code) p ≡ Ok (i, rest) → starts-at (x .parts .code) p ≡ true → Found x (p + 2 * i .pairs) (swept x n (pushes-block (x .parts .literals) i) (p + 2 * i .pairs)))
           → Found x p (turned x (swept x n) b p r)
       reading (Err e) read starts next = stops p (omega arith) starts (λ r l g t. absurd (omega arith)) (unread e read)
       reading (Ok r) read starts next = tested (r .0) (r .1) read starts (next (r .0) (r .1) read starts) (first (site-tests x (site p b (r .0)) (operation-of (r .0 .opcode)))) refl
+
       by : (c : Bool) → leb (length (x .parts .code)) p ≡ c
           → ((i : Instruction) (rest : List ℕ) → read-at (x .parts .code) p ≡ Ok (i, rest) → starts-at (x .parts .code) p ≡ true → Found x (p + 2 * i .pairs) (swept x n (pushes-block (x .parts .literals) i) (p + 2 * i .pairs)))
           → Found x p (cond c None (turned x (swept x n) b p (read-at (x .parts .code) p)))

@@ -44,10 +44,12 @@ literals-are ls bindings i (suc n) = by (first (literal-tests ls bindings i)) re
   where
     next : (j : ℕ) → i ≤ j → (j ≡ i → ⊥) → i + 1 ≤ j
     next j l ne = elim (cases-lt i j) [ inl h ↦ omega arith | inr h ↦ absurd (ne (omega arith)) ]
+
     further : {o : Option Fault} → Keeps-literal ls bindings i → Literals-are ls bindings (i + 1) n o → Literals-are ls bindings i (suc n) o
     further k (all f) = all (λ j l h. elim (cases-eq j i) [ inl e ↦ subst (λ (x : ℕ). Keeps-literal ls bindings x) (sym e) k | inr ne ↦ f j (next j l ne) (omega arith) ])
     further k (wrong-at m l h f g) =
         wrong-at m (omega arith) (omega arith) (λ j a b. elim (cases-eq j i) [ inl e ↦ subst (λ (x : ℕ). Keeps-literal ls bindings x) (sym e) k | inr ne ↦ f j (next j a ne) b ]) g
+
     by : (o : Option Fault) → first (literal-tests ls bindings i) ≡ o → Literals-are ls bindings (i + 1) n (first-from (wrong ls bindings) (i + 1) n)
         → Literals-are ls bindings i (suc n) (or-else o (first-from (wrong ls bindings) (i + 1) n))
     by (Some f) e r = wrong-at i (omega arith) (omega arith) (λ j l h. absurd (omega arith)) (first-some (literal-tests ls bindings i) f e)

@@ -53,14 +53,14 @@ module _ (code : List ℕ) (limit : ℕ) (hs : List ℕ) (small : limit < 255) (
   pub keeps-heights : Keeps-heights code limit
   keeps-heights = record {
     need = λ {p} {h} {i} {o} path t.
-      let w = walked path in
-      subst (λ (x : ℕ). effect-of o i .takes ≤ x) (w .at) (subst (λ (d : Demand). d .takes ≤ byte hs p) (stands-demand t) (w .done .need));
+        let w = walked path in
+        subst (λ (x : ℕ). effect-of o i .takes ≤ x) (w .at) (subst (λ (d : Demand). d .takes ≤ byte hs p) (stands-demand t) (w .done .need));
     within = λ {p} {h} {i} {o} path t.
-      let w = walked path in
-      subst (λ (x : ℕ). after (effect-of o i) x ≤ limit) (w .at) (subst (λ (d : Demand). height-after d (byte hs p) ≤ limit) (stands-demand t) (w .done .within));
+        let w = walked path in
+        subst (λ (x : ℕ). after (effect-of o i) x ≤ limit) (w .at) (subst (λ (d : Demand). height-after d (byte hs p) ≤ limit) (stands-demand t) (w .done .within));
     inside = λ {p} {h} {i} {o} path t m.
-      let n = (walked path) .done .next (length code) (subst (λ (x : Demand). Among (length code) (x .to)) (sym (stands-demand t)) m) .0 in
-      omega arith;
+        let n = (walked path) .done .next (length code) (subst (λ (x : Demand). Among (length code) (x .to)) (sym (stands-demand t)) m) .0 in
+        omega arith;
     one = λ path other. sym ((walked path) .at) ∙ (walked other) .at;
   }
 
@@ -71,7 +71,7 @@ module _ (code : List ℕ) (limit : ℕ) (hs : List ℕ) (small : limit < 255) (
     where
       by : starts-at code p ≡ true → s < length code → starts-at code s ≡ true
       by starts l = elim (successor-is code (flow-of o) (p + 2 * i .pairs) (i .argument) s m) [
-        inl e ↦ e
+        | inl e ↦ e
         | inr e ↦ subst (λ (q : ℕ). starts-at code q ≡ true) (sym e)
             (next-starts (spans code p i (t .rest) (t .read)) (start-even code p starts) (subst (λ (q : ℕ). q < length code) e l))
       ]
@@ -91,7 +91,7 @@ found (x ∷ xs) = by (found xs)
         → (greatest (x ∷ xs) ≡ 0) ⊎ ((k : ℕ) × (k < length (x ∷ xs)) × (height-of (getD (x ∷ xs) k 0) ≡ greatest (x ∷ xs)))
     by (inl z) = inr (0, omega arith, omega (arith, z))
     by (inr f) = elim (cases-lt (height-of x) (greatest xs)) [
-      inl l ↦ inr (suc (f .0), omega (arith, f .1), omega (arith, f .2))
+      | inl l ↦ inr (suc (f .0), omega (arith, f .1), omega (arith, f .2))
       | inr l ↦ inr (0, omega arith, omega arith)
     ]
 
@@ -111,41 +111,51 @@ heights-are code limit g rest small pos even k =
   where
     half : (j : ℕ) → 2 * j / 2 ≡ j
     half j = omega arith
+
     front : (j : ℕ) → j < pairs code → getD (g ++ rest) j 0 ≡ getD g j 0
     front j l = getD-append-left g rest 0 j (omega (arith, k .long))
+
     at : (j : ℕ) → byte g (2 * j) ≡ getD g j 0
     at j = ap (λ (i : ℕ). getD g i 0) (half j)
+
     path-at : (j : ℕ) → j < pairs code → (getD g j 0 ≡ 255 → ⊥) → Path code (2 * j) (getD g j 0)
     path-at j l ne = subst (λ (h : ℕ). Path code (2 * j) h) (at j) (k .sound (2 * j) (omega arith) (omega (arith, even)) (λ e. ne (sym (at j) ∙ e)))
+
     there : (j : ℕ) → j < pairs code → (h : ℕ) → h < 255 → getD g j 0 ≡ h → Path code (2 * j) h
     there j l h s e = subst (λ (x : ℕ). Path code (2 * j) x) e (path-at j l (λ q. omega (arith, e, q)))
+
     back : (j h : ℕ) → Path code (2 * j) h → getD g j 0 ≡ h
     back j h path = sym (at j) ∙ walked code limit g small pos k path .at
+
     low : (p h : ℕ) → Path code p h → h < 255
     low p h path = by (walked code limit g small pos k path)
       where
         by : Walked code limit g p h → h < 255
         by w = let a = w .at in elim (cases-eq (byte g p) 255) [
-          inl e ↦ absurd (never path e a)
+          | inl e ↦ absurd (never path e a)
           | inr ne ↦ omega (arith, a, k .low p (w .even) (w .below) ne)
         ]
           where
             never : {p h : ℕ} → Path code p h → byte g p ≡ 255 → byte g p ≡ h → ⊥
             never begins e a = omega (arith, e, a)
             never (goes-on path t m) e a = omega (arith, e, a, keeps-heights code limit g small pos k .within path t)
+
     full : (j : ℕ) → j < pairs code → (h : ℕ) → Path code (2 * j) h → getD g j 0 ≡ 255 → ⊥
     full j l h path e = omega (arith, back j h path, e, low (2 * j) h path)
+
     empty : (j : ℕ) → j < pairs code → ((h : ℕ) → Path code (2 * j) h → ⊥) → getD g j 0 ≡ 255
     empty j l none = elim (cases-eq (getD g j 0) 255) [ inl e ↦ e | inr ne ↦ absurd (none (getD g j 0) (path-at j l ne)) ]
+
     top : (p h : ℕ) → Path code p h → h ≤ greatest g
     top p h path =
         let w = walked code limit g small pos k path in
         let b = low p h path in
         omega (arith, w .at, height-known (byte g p) (λ e. omega (arith, e, w .at)), most g (p / 2) (omega (arith, w .below, k .long)))
+
     some-path : (greatest g ≡ 0) ⊎ ((j : ℕ) × (j < length g) × (height-of (getD g j 0) ≡ greatest g)) → (p : ℕ) × Path code p (greatest g)
     some-path (inl z) = (0, subst (λ (h : ℕ). Path code 0 h) (sym z) begins)
     some-path (inr f) = elim (cases-eq (getD g (f .0) 0) 255) [
-      inl e ↦ (0, subst (λ (h : ℕ). Path code 0 h) (sym (cond-true (eqb (getD g (f .0) 0) 255) 0 (getD g (f .0) 0) (eq-eqb _ 255 e)) ∙ f .2) begins)
+      | inl e ↦ (0, subst (λ (h : ℕ). Path code 0 h) (sym (cond-true (eqb (getD g (f .0) 0) 255) 0 (getD g (f .0) 0) (eq-eqb _ 255 e)) ∙ f .2) begins)
       | inr ne ↦ (2 * f .0, subst (λ (h : ℕ). Path code (2 * f .0) h) (sym (height-known _ ne) ∙ f .2) (path-at (f .0) (omega (arith, f .1, k .long)) ne))
     ]
 

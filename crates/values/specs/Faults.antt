@@ -1,9 +1,9 @@
 -- The number and the stage of every rule.
 use Prim.Native.Nat.{ℕ}
 use Rattle.values.specs.declared.faults.Rule.{Rule}
-use Rattle.values.specs.declared.faults.Rule.the-variants.{HeaderShort, KindUnknown, LiteralsTooMany, CodeTooLong, LengthWrong, FlagsReserved, LocalsOverSlots, LiteralWrong, BindingMissing, ListShort, CodeCut, ExtensionFourth, OpcodeUnknown, OperandWrong, CleanBlock, StoreTrusted, ReturnForeign, LandingWrong, ClosureAlone, HeightLow, HeightOver, CodeLeft, HeightsDiffer, CellMissing, FileShort, CellsTooMany, FileLength, CellWrong}
+use Rattle.values.specs.declared.faults.Rule.the-variants.{HeaderShort, KindUnknown, LiteralsTooMany, CodeTooLong, LengthWrong, FlagsReserved, LocalsOverSlots, LiteralWrong, BindingMissing, ListShort, CodeCut, ExtensionFourth, OpcodeUnknown, OperandWrong, CleanBlock, StoreTrusted, ReturnForeign, LandingWrong, ClosureAlone, HeightLow, HeightOver, CodeLeft, HeightsDiffer, ArgumentsDiffer, FrameShort, RunNotLive, CountsDiffer, StepFrameShort, CellMissing, FileShort, CellsTooMany, FileLength, CellWrong}
 use Rattle.values.specs.declared.faults.Stage.{Stage}
-use Rattle.values.specs.declared.faults.Stage.the-variants.{Header, Flags, Literals, Lists, Encoding, Heights, Host, WeekFile}
+use Rattle.values.specs.declared.faults.Stage.the-variants.{Header, Flags, Literals, Lists, Encoding, Heights, Opening, Step, Host, WeekFile}
 use Rattle.values.specs.declared.faults.Fault.{Fault}
 
 -- the number that a person reads
@@ -31,6 +31,11 @@ number-of HeightLow = 21
 number-of HeightOver = 22
 number-of CodeLeft = 23
 number-of HeightsDiffer = 24
+number-of ArgumentsDiffer = 25
+number-of FrameShort = 26
+number-of RunNotLive = 27
+number-of CountsDiffer = 28
+number-of StepFrameShort = 26
 number-of CellMissing = 29
 number-of FileShort = 30
 number-of CellsTooMany = 31
@@ -62,6 +67,11 @@ stage-of HeightLow = Heights
 stage-of HeightOver = Heights
 stage-of CodeLeft = Heights
 stage-of HeightsDiffer = Heights
+stage-of ArgumentsDiffer = Opening
+stage-of FrameShort = Opening
+stage-of RunNotLive = Step
+stage-of CountsDiffer = Step
+stage-of StepFrameShort = Step
 stage-of CellMissing = Host
 stage-of FileShort = WeekFile
 stage-of CellsTooMany = WeekFile
