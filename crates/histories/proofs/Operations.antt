@@ -37,7 +37,7 @@ use Rattle.scripts.specs.Running.{ground-of, base-of, cells-of}
 use Rattle.scripts.specs.Scripts.{Script, read-cell, write-cell, write-binding, send, go, stuck, no-block, must-be-boolean, given, selector-of, binding-of, constant-of, special, integer, choose, closure, script-of, Within}
 
 -- a property of scripts, through the ways in which a script is chosen
-chosen : (F : Script → Type 0) (v : Value) {t f o : Script} → F t → F f → F o → F (choose v t f o)
+pub chosen : (F : Script → Type 0) (v : Value) {t f o : Script} → F t → F f → F o → F (choose v t f o)
 chosen F Nil a b c = c
 chosen F True a b c = a
 chosen F False a b c = b
@@ -46,11 +46,11 @@ chosen F (Object n) a b c = c
 chosen F (Block n) a b c = c
 chosen F (Closure n) a b c = c
 
-either : (F : Script → Type 0) (w : Bool) {t f : Script} → F t → F f → F (cond w t f)
+pub either : (F : Script → Type 0) (w : Bool) {t f : Script} → F t → F f → F (cond w t f)
 either F true a b = a
 either F false a b = b
 
-closed : (F : Script → Type 0) (v : Value) {k : Value → Script} → F no-block → ((w : Value) → F (k w)) → F (closure v k)
+pub closed : (F : Script → Type 0) (v : Value) {k : Value → Script} → F no-block → ((w : Value) → F (k w)) → F (closure v k)
 closed F Nil a b = a
 closed F True a b = a
 closed F False a b = a
@@ -59,7 +59,7 @@ closed F (Object n) a b = a
 closed F (Block n) a b = b (Closure n)
 closed F (Closure n) a b = a
 
-provided : (F : Script → Type 0) {X : Type 0} (o : Option X) {k : X → Script} → F stuck → ((x : X) → F (k x)) → F (given o k)
+pub provided : (F : Script → Type 0) {X : Type 0} (o : Option X) {k : X → Script} → F stuck → ((x : X) → F (k x)) → F (given o k)
 provided F None a b = a
 provided F (Some x) a b = b x
 
