@@ -38,7 +38,7 @@ not-false true e = refl
 not-false false e = let z : _≡_ {A = ℕ} 0 1 = cc in absurd (omega arith)
 
 -- a literal that is there has a number below the count
-literal-there : (ls : List ℕ) (n k : ℕ) (l : Literal) → length ls ≡ 6 * n → literal ls k ≡ Some l → k < n
+pub literal-there : (ls : List ℕ) (n k : ℕ) (l : Literal) → length ls ≡ 6 * n → literal ls k ≡ Some l → k < n
 literal-there ls n k l long e = by (ltb (length ls) (6 * k + 6)) refl e
   where
     by : (b : Bool) → ltb (length ls) (6 * k + 6) ≡ b → cond b None (entry ls k) ≡ Some l → k < n
@@ -113,7 +113,7 @@ module _ (p : Parts) (i : Instruction) (next h vars bindings : ℕ) (long : leng
     where
       by : (x : Option Literal) → literal (p .literals) (i .argument) ≡ x → binds x ≡ true
           → (i .argument < p .layout .literals) × In (given (binding-of x) (λ m. read-cell (base-of p + (h - 1)) (λ v.
-            write-binding m v (write-cell (base-of p + (h - 1)) Nil (go next (after (effect-of (Store target.Binding) i) h))))))
+          write-binding m v (write-cell (base-of p + (h - 1)) Nil (go next (after (effect-of (Store target.Binding) i) h))))))
       by None q t = let z : _≡_ {A = ℕ} 0 1 = cc in absurd (omega arith)
       by (Some (Constant v)) q t = let z : _≡_ {A = ℕ} 0 1 = cc in absurd (omega arith)
       by (Some (Selector m c)) q t = let z : _≡_ {A = ℕ} 0 1 = cc in absurd (omega arith)
@@ -127,10 +127,10 @@ module _ (p : Parts) (i : Instruction) (next h vars bindings : ℕ) (long : leng
   stays-within (Branch w) e l n wi = by (landing-of (p .code) Forward next (i .argument)) (not-false _ l)
     where
       by : (x : Option ℕ) → isSome x ≡ true → In (given x (λ q. read-cell (base-of p + (h - 1)) (λ v.
-            choose v
-            (cond w (go q (after (effect-of (Branch w) i) h)) (go next (after (effect-of (Branch w) i) h)))
-            (cond w (go next (after (effect-of (Branch w) i) h)) (go q (after (effect-of (Branch w) i) h)))
-            (send (must-be-boolean v) (λ _. go q (after (effect-of (Branch w) i) h))))))
+          choose v
+          (cond w (go q (after (effect-of (Branch w) i) h)) (go next (after (effect-of (Branch w) i) h)))
+          (cond w (go next (after (effect-of (Branch w) i) h)) (go q (after (effect-of (Branch w) i) h)))
+          (send (must-be-boolean v) (λ _. go q (after (effect-of (Branch w) i) h))))))
       by None t = let z : _≡_ {A = ℕ} 0 1 = cc in absurd (omega arith)
       by (Some q) t = (omega arith, λ v. chosen In v (either In w tt tt) (either In w tt tt) (λ _. tt))
   stays-within Pop e l n w = tt

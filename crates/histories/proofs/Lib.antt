@@ -1,2 +1,4 @@
 pub mod Operations
 pub mod Bounds
+pub mod Readiness
+pub mod Safety

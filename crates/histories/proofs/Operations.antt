@@ -91,10 +91,10 @@ module _ (p : Parts) (i : Instruction) (next h : ℕ) where
     where
       by : (l : Option ℕ) → Leads (p .literals) (λ q k. Among q (l ∷ Some next ∷ []) × (k ≡ after (effect-of (Branch w) i) h))
           (given l (λ q. read-cell (base-of p + (h - 1)) (λ v.
-            choose v
-            (cond w (go q (after (effect-of (Branch w) i) h)) (go next (after (effect-of (Branch w) i) h)))
-            (cond w (go next (after (effect-of (Branch w) i) h)) (go q (after (effect-of (Branch w) i) h)))
-            (send (must-be-boolean v) (λ _. go q (after (effect-of (Branch w) i) h))))))
+          choose v
+          (cond w (go q (after (effect-of (Branch w) i) h)) (go next (after (effect-of (Branch w) i) h)))
+          (cond w (go next (after (effect-of (Branch w) i) h)) (go q (after (effect-of (Branch w) i) h)))
+          (send (must-be-boolean v) (λ _. go q (after (effect-of (Branch w) i) h))))))
       by None = tt
       by (Some q) = λ v.
           let F : Script → Type 0 = Leads (p .literals) (λ x k. Among x (Some q ∷ Some next ∷ []) × (k ≡ after (effect-of (Branch w) i) h)) in

@@ -60,9 +60,9 @@ module _ {S : Type 0} (means : S → Meaning) (may : S → Sent → Value → S 
     new : History s₀ s₀ []
     taken : {s : S} {rs : Runs} → History s₀ s rs → History s₀ s (rs ++ (Some empty ∷ []))
     opens : {s : S} {rs : Runs} → History s₀ s rs → (k : ℕ) (run : Running) → Holds rs k run
-      → (t : Bool) (b : List ℕ) (args f : List Value) (hs ws : List ℕ) → History s₀ s (set rs k (Some (opened (means s) t b args f hs ws run .run)))
+        → (t : Bool) (b : List ℕ) (args f : List Value) (hs ws : List ℕ) → History s₀ s (set rs k (Some (opened (means s) t b args f hs ws run .run)))
     steps : {s : S} {rs : Runs} → History s₀ s rs → (k : ℕ) (run run′ : Running) → Holds rs k run
-      → (s′ : S) (f f′ : List Value) (a : Answer) → Steps means may run s f a run′ s′ f′ → History s₀ s′ (set rs k (Some run′))
+        → (s′ : S) (f f′ : List Value) (a : Answer) → Steps means may run s f a run′ s′ f′ → History s₀ s′ (set rs k (Some run′))
     collects : {s : S} {rs : Runs} → History s₀ s rs → (k : ℕ) (run : Running) → Holds rs k run → History s₀ s (set rs k None)
 
   -- every parcel that was opened, and not refused, was untrusted
@@ -77,7 +77,7 @@ module _ {S : Type 0} (means : S → Meaning) (may : S → Sent → Value → S 
   pub record Safe (s₀ s : S) (rs : Runs) (past : History s₀ s rs) : Type 0 where
     pub placed : (k : ℕ) (run : Running) → Holds rs k run → run .state ≡ Live → Placed run
     pub goes-on : (k : ℕ) (run : Running) → Holds rs k run → run .state ≡ Live
-      → (f f′ : List Value) (a : Answer) (run′ : Running) (s′ : S) → cells-of (run .parts) ≤ length f → Steps means may run s f a run′ s′ f′ → Goes-on run s f a run′
+        → (f f′ : List Value) (a : Answer) (run′ : Running) (s′ : S) → cells-of (run .parts) ≤ length f → Steps means may run s f a run′ s′ f′ → Goes-on run s f a run′
     pub variables : Untrusted past → (i : ℕ) → marked (marks-of (means s₀) .variables) i ≡ true → cell-value (means s .variables) i ≡ cell-value (means s₀ .variables) i
     pub bindings : Untrusted past → (i : ℕ) → marked (marks-of (means s₀) .bindings) i ≡ true → cell-value (means s .bindings) i ≡ cell-value (means s₀ .bindings) i
 

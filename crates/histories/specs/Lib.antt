@@ -1,2 +1,3 @@
 pub mod Opening
+pub mod Ready
 pub mod Histories
