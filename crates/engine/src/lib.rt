@@ -1,0 +1,4 @@
+// Runs of accepted parcels on any host.
+mod frames;
+mod performing;
+mod turns;
