@@ -2,7 +2,7 @@
 use mathlib.Core.Path.{_≡_}
 use mathlib.Core.Bool.{Bool, false}
 use mathlib.Core.List.{List}
-use Prim.Native.Nat.{ℕ, _≤_}
+use Prim.Native.Nat.{ℕ, _+_, _*_, _≤_}
 use lib.ListN.{length, getD}
 use Rattle.std.specs.Options.{mapped}
 use Rattle.std.specs.declared.option.Option.{Option}
@@ -22,7 +22,8 @@ use Rattle.parcels.specs.Opcodes.{effect-of, after, flow-of}
 use Rattle.parcels.specs.Parts.{Parts}
 use Rattle.stages.specs.Operands.{operand-wrong}
 use Rattle.stages.specs.Encoding.{lands-wrong}
-use Rattle.scripts.specs.Running.{cells-of, ground-of}
+use Rattle.paths.specs.Paths.{Stands}
+use Rattle.scripts.specs.Running.{Running, cells-of, ground-of}
 use Rattle.scripts.specs.Scripts.{Script, script-of, Outcome, goes, ends, stops, Runs, cell-value, binding-of, constant-of, integer, special}
 use Rattle.engine.specs.declared.turns.Turn.{Turn}
 use Rattle.engine.specs.declared.turns.Went.{Went}
@@ -66,3 +67,10 @@ pushed-value p i source.Integer f m = integer (i .argument)
 pushed-value p i source.Special f m = special (i .argument)
 pushed-value p i source.Literal f m = constant-of (literal (p .literals) (i .argument))
 pushed-value p i source.Receiver f m = Some (m .receiver)
+
+-- the turn of a live run: its instruction stands at the place, its script is the next one, and it is fit
+pub record Next-turn (run : Running) (t : Turn) : Type 0 where
+  pub stands : Stands (run .parts .code) (run .place) (t .instruction) (t .operation)
+  pub following : t .next ≡ run .place + 2 * t .instruction .pairs
+  pub at : t .height ≡ run .height
+  pub fit : Fit (run .parts) t (run .variables)

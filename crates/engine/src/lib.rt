@@ -1,4 +1,8 @@
 // Runs of accepted parcels on any host.
 mod frames;
 mod performing;
+mod runs;
+mod stepping;
 mod turns;
+
+pub use runs::Run;
