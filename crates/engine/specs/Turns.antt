@@ -1,7 +1,12 @@
 -- An instruction to be performed: what it may rely on, and what comes of it.
 use mathlib.Core.Path.{_≡_}
-use mathlib.Core.Bool.{Bool, false}
-use mathlib.Core.List.{List}
+use mathlib.Core.Bool.{Bool, false, not, _&&_}
+use lib.Dec.{eqb, ltb}
+use mathlib.Core.List.{List, [], _∷_}
+use Rattle.values.specs.Order.{Test, test}
+use Rattle.values.specs.declared.faults.Rule.the-variants.{RunNotLive, CountsDiffer, StepFrameShort}
+use Rattle.values.specs.Faults.{fault}
+use Rattle.scripts.specs.declared.states.State.the-variants.{Live}
 use Prim.Native.Nat.{ℕ, _+_, _*_, _≤_}
 use lib.ListN.{length, getD}
 use Rattle.std.specs.Options.{mapped}
@@ -23,7 +28,7 @@ use Rattle.parcels.specs.Parts.{Parts}
 use Rattle.stages.specs.Operands.{operand-wrong}
 use Rattle.stages.specs.Encoding.{lands-wrong}
 use Rattle.paths.specs.Paths.{Stands}
-use Rattle.scripts.specs.Running.{Running, cells-of, ground-of}
+use Rattle.scripts.specs.Running.{Running, is-live, cells-of, ground-of}
 use Rattle.scripts.specs.Scripts.{Script, script-of, Outcome, goes, ends, stops, Runs, cell-value, binding-of, constant-of, integer, special}
 use Rattle.engine.specs.declared.turns.Turn.{Turn}
 use Rattle.engine.specs.declared.turns.Went.{Went}
@@ -74,3 +79,16 @@ pub record Next-turn (run : Running) (t : Turn) : Type 0 where
   pub following : t .next ≡ run .place + 2 * t .instruction .pairs
   pub at : t .height ≡ run .height
   pub fit : Fit (run .parts) t (run .variables)
+
+-- why a live run is not stepped with a frame of so many cells, in order
+abbrev pub count-tests : Running → Meaning → ℕ → List Test
+count-tests run m n =
+    test CountsDiffer (run .place) (not (eqb (length (m .variables)) (run .variables) && eqb (length (m .bindings)) (run .bindings)))
+    ∷ test StepFrameShort (run .place) (ltb n (cells-of (run .parts)))
+    ∷ []
+
+-- what comes of performing a turn on a host s with the frame f: how it went, or the refusal of a run that is not live
+module _ {S : Type 0} (means : S → Meaning) (may : S → Sent → Value → S → Type 0) where
+  abbrev pub Performed : Running → Turn → S → List Value → Result Went Fault → S → List Value → Type 0
+  Performed run t s f (Ok w) s′ f′ = (run .state ≡ Live) × Runs means may (run .parts .literals) (script-in (run .parts) t) f s (outcome-of w) f′ s′
+  Performed run t s f (Err x) s′ f′ = (is-live (run .state) ≡ false) × (x ≡ fault RunNotLive (run .place)) × (means s′ ≡ means s) × (f′ ≡ f)

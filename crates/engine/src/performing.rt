@@ -10,7 +10,7 @@ ghost use Rattle.std.specs.declared.option.Option.the-variants.{Some};
 ghost use Rattle.parcels.specs.Literals.{literal};
 ghost use Rattle.stages.specs.Operands.{selects, binds, constant};
 ghost use Rattle.scripts.specs.Scripts.{Runs, sending, pushing, selector-of, binding-of, constant-of, integer, special};
-ghost use Rattle.parcels.specs.declared.opcodes.Operation.the-variants.{Push, Store, Branch, Close};
+ghost use Rattle.parcels.specs.declared.opcodes.Operation.the-variants.{Send, SendSelector, Push, Store, Branch, Close};
 ghost use Rattle.parcels.specs.Opcodes.{landing-of};
 ghost use Rattle.std.specs.Options.{isSome};
 ghost use Rattle.engine.specs.Turns.{outcome-of, script-in, answered-value, pushed-value, Fit, Long};
@@ -24,6 +24,7 @@ use parcels::Literal;
 use parcels::Parcel;
 use parcels::Source;
 use parcels::Target;
+use parcels::argument_count;
 use parcels::landing;
 use parcels::literal_at;
 use scripts::Stop;
@@ -32,14 +33,14 @@ use values::SmallInteger;
 use values::Value;
 
 // Where the working cells begin.
-fn base(parcel: Parcel) -> usize
+pub fn base(parcel: Parcel) -> usize
     ensures { λ r. ⌜ r ≡ base-of (parts (parcel .entry)) ⌝ }
 {
     parcel.layout.arguments as usize + parcel.layout.locals as usize
 }
 
 // A value on top, and on.
-fn push<H: Host>(parcel: Parcel, turn: Turn, variables: usize, v: Value, host: &mut H, frame: &mut [Value]) -> Went
+pub fn push<H: Host>(parcel: Parcel, turn: Turn, variables: usize, v: Value, host: &mut H, frame: &mut [Value]) -> Went
     requires fit { ⌜ Fit (parts parcel) turn variables ⌝ }
     requires room { ⌜ turn .height + 1 ≤ turn .after ⌝ }
     requires long { ⌜ Long (parts parcel) (length (now frame)) ⌝ }
@@ -69,16 +70,6 @@ fn send<H: Host>(parcel: Parcel, turn: Turn, variables: usize, is_super: bool, s
     }
 }
 
-// The value of a variable or a binding that a host answered for.
-fn value_or_nil(answer: Result<Value, Fault>) -> Value
-    ensures { λ r. ⌜ r ≡ answered-value answer ⌝ }
-{
-    match answer {
-        Ok(v) => v,
-        Err(_) => Value::Nil,
-    }
-}
-
 // The selector number of a literal that is a selector.
 fn selector_number(literals: &[u8], k: u32, count: u32) -> u32
     requires { ⌜ selects (literal (now literals) k) count ≡ true ⌝ }
@@ -87,6 +78,39 @@ fn selector_number(literals: &[u8], k: u32, count: u32) -> u32
     match literal_at(literals, k) {
         Some(Literal::Selector { number, arguments: _ }) => number,
         _ => unreachable(),
+    }
+}
+
+// Sends the message of a short opcode.
+pub fn send_special<H: Host>(parcel: Parcel, turn: Turn, variables: usize, host: &mut H, frame: &mut [Value]) -> Went
+    requires is { ⌜ turn .operation ≡ Send ⌝ }
+    requires fit { ⌜ Fit (parts parcel) turn variables ⌝ }
+    requires long { ⌜ Long (parts parcel) (length (now frame)) ⌝ }
+    ensures { λ r. ⌜ Runs means may (parts (parcel .entry) .literals) (script-in (parts (parcel .entry)) turn) (now (frame .entry)) (now (host .entry)) (outcome-of r) (now (frame .exit)) (now (host .exit)) ⌝ }
+{
+    let opcode = turn.instruction.opcode;
+    send(parcel, turn, variables, false, opcode as u32, argument_count(opcode) as usize, host, frame)
+}
+
+// Sends the message of a literal selector.
+pub fn send_selector<H: Host>(parcel: Parcel, turn: Turn, variables: usize, is_super: bool, host: &mut H, frame: &mut [Value]) -> Went
+    requires is { ⌜ turn .operation ≡ SendSelector «is_super» ⌝ }
+    requires fit { ⌜ Fit (parts parcel) turn variables ⌝ }
+    requires long { ⌜ Long (parts parcel) (length (now frame)) ⌝ }
+    ensures { λ r. ⌜ Runs means may (parts (parcel .entry) .literals) (script-in (parts (parcel .entry)) turn) (now (frame .entry)) (now (host .entry)) (outcome-of r) (now (frame .exit)) (now (host .exit)) ⌝ }
+{
+    let a = turn.instruction.argument;
+    let selector = selector_number(parcel.literals, a / 256, a % 256);
+    send(parcel, turn, variables, is_super, selector, (a % 256) as usize, host, frame)
+}
+
+// The value of a variable or a binding that a host answered for.
+fn value_or_nil(answer: Result<Value, Fault>) -> Value
+    ensures { λ r. ⌜ r ≡ answered-value answer ⌝ }
+{
+    match answer {
+        Ok(v) => v,
+        Err(_) => Value::Nil,
     }
 }
 
@@ -155,7 +179,7 @@ fn value_from<H: Host>(parcel: Parcel, turn: Turn, variables: usize, source: Sou
 }
 
 // Pushes from a source.
-fn push_from<H: Host>(parcel: Parcel, turn: Turn, variables: usize, source: Source, host: &mut H, frame: &mut [Value]) -> Went
+pub fn push_from<H: Host>(parcel: Parcel, turn: Turn, variables: usize, source: Source, host: &mut H, frame: &mut [Value]) -> Went
     requires is { ⌜ turn .operation ≡ Push source ⌝ }
     requires fit { ⌜ Fit (parts parcel) turn variables ⌝ }
     requires long { ⌜ Long (parts parcel) (length (now frame)) ⌝ }
@@ -166,7 +190,7 @@ fn push_from<H: Host>(parcel: Parcel, turn: Turn, variables: usize, source: Sour
 }
 
 // Stores the top to a target. After a store to a binding the top is nil.
-fn store_to<H: Host>(parcel: Parcel, turn: Turn, variables: usize, target: Target, host: &mut H, frame: &mut [Value]) -> Went
+pub fn store_to<H: Host>(parcel: Parcel, turn: Turn, variables: usize, target: Target, host: &mut H, frame: &mut [Value]) -> Went
     requires is { ⌜ turn .operation ≡ Store target ⌝ }
     requires fit { ⌜ Fit (parts parcel) turn variables ⌝ }
     requires long { ⌜ Long (parts parcel) (length (now frame)) ⌝ }
@@ -189,7 +213,7 @@ fn store_to<H: Host>(parcel: Parcel, turn: Turn, variables: usize, target: Targe
 }
 
 // The landing place of a jump.
-fn land(parcel: Parcel, turn: Turn, direction: Direction) -> usize
+pub fn land(parcel: Parcel, turn: Turn, direction: Direction) -> usize
     requires { ⌜ isSome (landing-of (now (parcel .code)) direction (turn .next) (turn .instruction .argument)) ≡ true ⌝ }
     ensures { λ r. ⌜ Some r ≡ landing-of (now (parcel .entry .code)) direction (turn .next) (turn .instruction .argument) ⌝ }
 {
@@ -200,7 +224,7 @@ fn land(parcel: Parcel, turn: Turn, direction: Direction) -> usize
 }
 
 // A conditional jump: what is neither true nor false is told that it must be Boolean, and the jump is taken.
-fn branch<H: Host>(parcel: Parcel, turn: Turn, variables: usize, when: bool, host: &mut H, frame: &mut [Value]) -> Went
+pub fn branch<H: Host>(parcel: Parcel, turn: Turn, variables: usize, when: bool, host: &mut H, frame: &mut [Value]) -> Went
     requires is { ⌜ turn .operation ≡ Branch when ⌝ }
     requires fit { ⌜ Fit (parts parcel) turn variables ⌝ }
     requires long { ⌜ Long (parts parcel) (length (now frame)) ⌝ }
@@ -223,7 +247,7 @@ fn branch<H: Host>(parcel: Parcel, turn: Turn, variables: usize, when: bool, hos
 }
 
 // A block on top becomes the closure of its number.
-fn close<H: Host>(parcel: Parcel, turn: Turn, variables: usize, host: &mut H, frame: &mut [Value]) -> Went
+pub fn close<H: Host>(parcel: Parcel, turn: Turn, variables: usize, host: &mut H, frame: &mut [Value]) -> Went
     requires is { ⌜ turn .operation ≡ Close ⌝ }
     requires fit { ⌜ Fit (parts parcel) turn variables ⌝ }
     requires long { ⌜ Long (parts parcel) (length (now frame)) ⌝ }

@@ -3,13 +3,31 @@ ghost use mathlib.Core.Path.{_≡_};
 ghost use Prim.Native.Nat.{_+_, _*_, _≤_};
 ghost use lib.ListN.{length};
 ghost use denote.Ref.{now};
+ghost use Rattle.parcels.specs.Parts.{parts};
 ghost use Rattle.scripts.specs.declared.states.State.the-variants.{Live};
-ghost use Rattle.engine.specs.Turns.{Next-turn};
+ghost use Rattle.values.specs.Order.{first};
+ghost use Rattle.engine.specs.Turns.{Next-turn, Long, Performed, count-tests};
 ghost use Rattle.engine.specs.View.{view};
+use crate::performing::base;
+use crate::performing::branch;
+use crate::performing::close;
+use crate::performing::land;
+use crate::performing::push;
+use crate::performing::push_from;
+use crate::performing::send_selector;
+use crate::performing::send_special;
+use crate::performing::store_to;
 use crate::runs::Run;
 use crate::turns::Turn;
+use crate::turns::Went;
+use hosts::Host;
+use parcels::Instruction;
 use parcels::Operation;
 use parcels::Reader;
+use scripts::State;
+use values::Fault;
+use values::Rule;
+use values::Value;
 
 impl Run<'_> {
     // The instruction at the place of a live run, with what acceptance gives of it.
@@ -29,6 +47,63 @@ impl Run<'_> {
                 None => unreachable(),
             },
             Err(_) => unreachable(),
+        }
+    }
+
+    // The instruction at the place; for a run that is not live, one that does nothing.
+    fn peek(&self) -> Turn
+        ensures { λ r. ⌜ (now (self .entry) .state ≡ Live → Next-turn (view (now (self .entry))) r) ⌝ }
+    {
+        match self.state {
+            State::Live => self.fetch(),
+            _ => Turn {
+                instruction: Instruction { opcode: 0, argument: 0, pairs: 0 },
+                operation: Operation::Line,
+                next: 0,
+                height: 0,
+                after: 0,
+            },
+        }
+    }
+
+    // Why a live run is not stepped: the host's counts are not those noted, or the frame is too short.
+    fn refusal<H: Host>(&self, host: &H, cells: usize) -> Option<Fault>
+        ensures { λ r. ⌜ r ≡ first (count-tests (view (now (self .entry))) (means (now (host .entry))) cells) ⌝ }
+    {
+        if host.variable_count() != self.variables || host.binding_count() != self.bindings {
+            return Some(Fault { rule: Rule::CountsDiffer, place: self.place });
+        }
+        let layout = self.parcel.layout;
+        if cells < layout.arguments as usize + layout.slots as usize {
+            return Some(Fault { rule: Rule::StepFrameShort, place: self.place });
+        }
+        None
+    }
+
+    // Performs a turn of a live run: the run's own state and the operation are read together.
+    fn perform<H: Host>(&mut self, turn: Turn, host: &mut H, frame: &mut [Value]) -> Result<Went, Fault>
+        requires turn { ⌜ (now self .state ≡ Live → Next-turn (view (now self)) turn) ⌝ }
+        requires long { ⌜ (now self .state ≡ Live → Long (parts (now self .parcel)) (length (now frame))) ⌝ }
+        ensures run { λ _. ⌜ view (now (self .exit)) ≡ view (now (self .entry)) ⌝ }
+        ensures went { λ r. ⌜ Performed means may (view (now (self .entry))) turn (now (host .entry)) (now (frame .entry)) r (now (host .exit)) (now (frame .exit)) ⌝ }
+    {
+        let parcel = self.parcel;
+        let variables = self.variables;
+        match (self.state, turn.operation) {
+            (State::Ended { how: _, value: _ } | State::Stopped(_), _) => Err(Fault { rule: Rule::RunNotLive, place: self.place }),
+            (State::Live, Operation::Send) => Ok(send_special(parcel, turn, variables, host, frame)),
+            (State::Live, Operation::SendSelector { is_super }) => Ok(send_selector(parcel, turn, variables, is_super, host, frame)),
+            (State::Live, Operation::Push(source)) => Ok(push_from(parcel, turn, variables, source, host, frame)),
+            (State::Live, Operation::Store(target)) => Ok(store_to(parcel, turn, variables, target, host, frame)),
+            (State::Live, Operation::Jump(direction)) => Ok(Went::On { place: land(parcel, turn, direction), height: turn.after }),
+            (State::Live, Operation::Branch { when }) => Ok(branch(parcel, turn, variables, when, host, frame)),
+            (State::Live, Operation::Pop | Operation::Line) => Ok(Went::On { place: turn.next, height: turn.after }),
+            (State::Live, Operation::Duplicate) => {
+                let v = frame[base(parcel) + (turn.height - 1)];
+                Ok(push(parcel, turn, variables, v, host, frame))
+            }
+            (State::Live, Operation::Close) => Ok(close(parcel, turn, variables, host, frame)),
+            (State::Live, Operation::End(how)) => Ok(Went::Ended { how, value: frame[base(parcel) + (turn.height - 1)] }),
         }
     }
 }
