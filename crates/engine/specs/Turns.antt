@@ -27,7 +27,7 @@ use Rattle.parcels.specs.Opcodes.{effect-of, after, flow-of}
 use Rattle.parcels.specs.Parts.{Parts}
 use Rattle.stages.specs.Operands.{operand-wrong}
 use Rattle.stages.specs.Encoding.{lands-wrong}
-use Rattle.paths.specs.Paths.{Stands}
+use Rattle.paths.specs.Paths.{Stands, Among, successors}
 use Rattle.scripts.specs.Running.{Running, is-live, cells-of, ground-of}
 use Rattle.scripts.specs.Scripts.{Script, script-of, Outcome, goes, ends, stops, Runs, cell-value, binding-of, constant-of, integer, special}
 use Rattle.engine.specs.declared.turns.Turn.{Turn}
@@ -79,6 +79,10 @@ pub record Next-turn (run : Running) (t : Turn) : Type 0 where
   pub following : t .next ≡ run .place + 2 * t .instruction .pairs
   pub at : t .height ≡ run .height
   pub fit : Fit (run .parts) t (run .variables)
+
+-- a turn at a place leads to a successor, at the height after
+abbrev pub Led : List ℕ → ℕ → Turn → ℕ → ℕ → Type 0
+Led code place t p h = Among p (successors code place (t .instruction) (t .operation)) × (h ≡ after (effect-of (t .operation) (t .instruction)) (t .height))
 
 -- why a live run is not stepped with a frame of so many cells, in order
 abbrev pub count-tests : Running → Meaning → ℕ → List Test

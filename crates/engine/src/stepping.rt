@@ -1,12 +1,17 @@
 // One step of a run.
 ghost use mathlib.Core.Path.{_≡_};
-ghost use Prim.Native.Nat.{_+_, _*_, _≤_};
+ghost use Prim.Native.Nat.{ℕ, _+_, _*_, _≤_};
 ghost use lib.ListN.{length};
 ghost use denote.Ref.{now};
 ghost use Rattle.parcels.specs.Parts.{parts};
 ghost use Rattle.scripts.specs.declared.states.State.the-variants.{Live};
 ghost use Rattle.values.specs.Order.{first};
-ghost use Rattle.engine.specs.Turns.{Next-turn, Long, Performed, count-tests};
+ghost use Rattle.engine.specs.Turns.{outcome-of, Next-turn, Led, Long, Performed, count-tests};
+ghost use Rattle.scripts.specs.Scripts.{goes};
+ghost use Rattle.scripts.specs.Running.{is-live, moved, Steps};
+ghost use mathlib.Core.Bool.{cond};
+ghost use Rattle.std.specs.Options.{Cases as BySome};
+ghost use Rattle.std.specs.declared.option.Option.the-variants.{None};
 ghost use Rattle.engine.specs.View.{view};
 use crate::performing::base;
 use crate::performing::branch;
@@ -68,8 +73,13 @@ impl Run<'_> {
 
     // Why a live run is not stepped: the host's counts are not those noted, or the frame is too short.
     fn refusal<H: Host>(&self, host: &H, cells: usize) -> Option<Fault>
-        ensures { λ r. ⌜ r ≡ first (count-tests (view (now (self .entry))) (means (now (host .entry))) cells) ⌝ }
+        ensures answer { λ r. ⌜ r ≡ cond (is-live (now (self .entry) .state)) (first (count-tests (view (now (self .entry))) (means (now (host .entry))) cells)) None ⌝ }
+        ensures long { λ r. ⌜ BySome r (now (self .entry) .state ≡ Live → Long (parts (now (self .entry) .parcel)) cells) (λ _. Unit {0}) ⌝ }
     {
+        match self.state {
+            State::Live => {}
+            _ => return None,
+        }
         if host.variable_count() != self.variables || host.binding_count() != self.bindings {
             return Some(Fault { rule: Rule::CountsDiffer, place: self.place });
         }
@@ -104,6 +114,40 @@ impl Run<'_> {
             }
             (State::Live, Operation::Close) => Ok(close(parcel, turn, variables, host, frame)),
             (State::Live, Operation::End(how)) => Ok(Went::Ended { how, value: frame[base(parcel) + (turn.height - 1)] }),
+        }
+    }
+
+    // Moves a live run as its turn went.
+    fn settle(&mut self, turn: Turn, went: Went)
+        requires live { ⌜ now self .state ≡ Live ⌝ }
+        requires turn { ⌜ Next-turn (view (now self)) turn ⌝ }
+        requires leads { ⌜ ((p h : ℕ) → outcome-of went ≡ goes p h → Led (parts (now self .parcel) .code) (now self .place) turn p h) ⌝ }
+        ensures { λ _. ⌜ view (now (self .exit)) ≡ moved (view (now (self .entry))) (outcome-of went) ⌝ }
+    {
+        match went {
+            Went::On { place, height } => {
+                self.place = place;
+                self.height = height;
+            }
+            Went::Ended { how, value } => self.state = State::Ended { how, value },
+            Went::Stopped(stop) => self.state = State::Stopped(stop),
+        }
+    }
+
+    // One step.
+    fn step_once<H: Host>(&mut self, host: &mut H, frame: &mut [Value]) -> Result<(), Fault>
+        ensures { λ r. ⌜ Steps means may (view (now (self .entry))) (now (host .entry)) (now (frame .entry)) r (view (now (self .exit))) (now (host .exit)) (now (frame .exit)) ⌝ }
+    {
+        let turn = self.peek();
+        if let Some(fault) = self.refusal(host, frame.len()) {
+            return Err(fault);
+        }
+        match self.perform(turn, host, frame) {
+            Ok(went) => {
+                self.settle(turn, went);
+                Ok(())
+            }
+            Err(fault) => Err(fault),
         }
     }
 }
