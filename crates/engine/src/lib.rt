@@ -1,5 +1,6 @@
 // Runs of accepted parcels on any host.
 mod frames;
+mod opening;
 mod performing;
 mod runs;
 mod stepping;
