@@ -36,8 +36,8 @@ module _ {p : Parts} {v b place h : ℕ} (t : ∥ Ready p v b place h ∥₁) wh
   pub known : (i : Instruction) (rest : List ℕ) → read-at (p .code) place ≡ Ok (i, rest) → operation-of (i .opcode) ≡ None → ⊥
   known i rest q n =
       ∥∥₁-elim t ⊥-prop (λ r.
-        let e : Some (here r .operation) ≡ None = sym (here r .stands .known) ∙ ap (λ (j : Instruction). operation-of (j .opcode)) (same r i rest q) ∙ n in
-        let z : _≡_ {A = ℕ} 0 1 = cc in omega arith)
+      let e : Some (here r .operation) ≡ None = sym (here r .stands .known) ∙ ap (λ (j : Instruction). operation-of (j .opcode)) (same r i rest q) ∙ n in
+      let z : _≡_ {A = ℕ} 0 1 = cc in omega arith)
 
   module _ {i : Instruction} {o : Operation} (s : Stands (p .code) place i o) where
     does : (r : Ready p v b place h) → here r .operation ≡ o
@@ -60,14 +60,14 @@ module _ {p : Parts} {v b place h : ℕ} (t : ∥ Ready p v b place h ∥₁) wh
 
     pub operand : operand-wrong p v (i .argument) o ≡ false
     operand = ∥∥₁-elim t (Bool-set _ _) (λ r.
-      subst (λ (n : ℕ). operand-wrong p n (i .argument) o ≡ false) (length-replicate v false)
-      (subst (λ (j : Instruction). operand-wrong p (length (replicate v false)) (j .argument) o ≡ false) (same r i (s .rest) (s .read))
-      (subst (λ (x : Operation). operand-wrong p (length (replicate v false)) (here r .instruction .argument) x ≡ false) (does r) (here r .operand))))
+        subst (λ (n : ℕ). operand-wrong p n (i .argument) o ≡ false) (length-replicate v false)
+        (subst (λ (j : Instruction). operand-wrong p (length (replicate v false)) (j .argument) o ≡ false) (same r i (s .rest) (s .read))
+        (subst (λ (x : Operation). operand-wrong p (length (replicate v false)) (here r .instruction .argument) x ≡ false) (does r) (here r .operand))))
 
     pub lands : lands-wrong (p .code) (place + 2 * i .pairs) (i .argument) (flow-of o) ≡ false
     lands = ∥∥₁-elim t (Bool-set _ _) (λ r.
-      subst (λ (j : Instruction). lands-wrong (p .code) (place + 2 * j .pairs) (j .argument) (flow-of o) ≡ false) (same r i (s .rest) (s .read))
-      (subst (λ (x : Operation). lands-wrong (p .code) (place + 2 * here r .instruction .pairs) (here r .instruction .argument) (flow-of x) ≡ false) (does r) (here r .lands)))
+        subst (λ (j : Instruction). lands-wrong (p .code) (place + 2 * j .pairs) (j .argument) (flow-of o) ≡ false) (same r i (s .rest) (s .read))
+        (subst (λ (x : Operation). lands-wrong (p .code) (place + 2 * here r .instruction .pairs) (here r .instruction .argument) (flow-of x) ≡ false) (does r) (here r .lands)))
 
     -- readiness at a successor
     pub onward : (q k : ℕ) → Among q (successors (p .code) place i o) → k ≡ after (effect-of o i) h → ∥ Ready p v b q k ∥₁

@@ -18,5 +18,5 @@ pub led : {S : Type 0} (means : S → Meaning) (may : S → Sent → Value → S
     → Next-turn run t → Runs means may (run .parts .literals) (script-in (run .parts) t) f s (outcome-of w) f′ s′ → (p h : ℕ) → outcome-of w ≡ goes p h → Led (run .parts .code) (run .place) t p h
 led means may run t f s w f′ s′ n r p h e =
     let x = leads means may (run .parts .literals) (λ q k. Among q (successors-of (run .parts .code) (flow-of (t .operation)) (t .next) (t .instruction .argument)) × (k ≡ after (effect-of (t .operation) (t .instruction)) (t .height)))
-            (script-in (run .parts) t) f s (outcome-of w) f′ s′ (leads-to (run .parts) (t .instruction) (t .next) (t .height) (t .operation)) r p h e in
+    (script-in (run .parts) t) f s (outcome-of w) f′ s′ (leads-to (run .parts) (t .instruction) (t .next) (t .height) (t .operation)) r p h e in
     (subst (λ (y : ℕ). Among p (successors-of (run .parts .code) (flow-of (t .operation)) y (t .instruction .argument))) (n .following) (x .0), x .1)

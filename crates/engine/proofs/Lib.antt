@@ -1,2 +1,3 @@
 pub mod Fetching
 pub mod Leading
+pub mod Accepting

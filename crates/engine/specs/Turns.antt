@@ -11,7 +11,7 @@ use Prim.Native.Nat.{ℕ, _+_, _*_, _≤_}
 use lib.ListN.{length, getD}
 use Rattle.std.specs.Options.{mapped}
 use Rattle.std.specs.declared.option.Option.{Option}
-use Rattle.std.specs.declared.option.Option.the-variants.{Some}
+use Rattle.std.specs.declared.option.Option.the-variants.{Some, None}
 use Rattle.parcels.specs.Literals.{literal}
 use Rattle.parcels.specs.declared.opcodes.Source.{Source}
 use Rattle.parcels.specs.declared.opcodes.Source.the-variants as source
@@ -96,3 +96,8 @@ module _ {S : Type 0} (means : S → Meaning) (may : S → Sent → Value → S 
   abbrev pub Performed : Running → Turn → S → List Value → Result Went Fault → S → List Value → Type 0
   Performed run t s f (Ok w) s′ f′ = (run .state ≡ Live) × Runs means may (run .parts .literals) (script-in (run .parts) t) f s (outcome-of w) f′ s′
   Performed run t s f (Err x) s′ f′ = (is-live (run .state) ≡ false) × (x ≡ fault RunNotLive (run .place)) × (means s′ ≡ means s) × (f′ ≡ f)
+
+-- one of two, by whether there is a fault
+abbrev pub if-none : {X : Type 0} → Option Fault → X → X → X
+if-none None x y = x
+if-none (Some f) x y = y

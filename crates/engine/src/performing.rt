@@ -40,18 +40,37 @@ pub fn base(parcel: Parcel) -> usize
 }
 
 // A value on top, and on.
-pub fn push<H: Host>(parcel: Parcel, turn: Turn, variables: usize, v: Value, host: &mut H, frame: &mut [Value]) -> Went
+pub fn push<H: Host>(
+    parcel: Parcel,
+    turn: Turn,
+    variables: usize,
+    v: Value,
+    host: &mut H,
+    frame: &mut [Value],
+) -> Went
     requires fit { ⌜ Fit (parts parcel) turn variables ⌝ }
     requires room { ⌜ turn .height + 1 ≤ turn .after ⌝ }
     requires long { ⌜ Long (parts parcel) (length (now frame)) ⌝ }
     ensures { λ r. ⌜ Runs means may (parts (parcel .entry) .literals) (pushing (ground-of (parts (parcel .entry))) (turn .instruction) (turn .next) (turn .height) (turn .operation) v) (now (frame .entry)) (now (host .entry)) (outcome-of r) (now (frame .exit)) (now (host .exit)) ⌝ }
 {
     push_value(frame, base(parcel), turn.height, v);
-    Went::On { place: turn.next, height: turn.after }
+    Went::On {
+        place: turn.next,
+        height: turn.after,
+    }
 }
 
 // Sends a message with `count` arguments from the top and the receiver below them; the answer replaces the receiver.
-fn send<H: Host>(parcel: Parcel, turn: Turn, variables: usize, is_super: bool, selector: u32, count: usize, host: &mut H, frame: &mut [Value]) -> Went
+fn send<H: Host>(
+    parcel: Parcel,
+    turn: Turn,
+    variables: usize,
+    is_super: bool,
+    selector: u32,
+    count: usize,
+    host: &mut H,
+    frame: &mut [Value],
+) -> Went
     requires fit { ⌜ Fit (parts parcel) turn variables ⌝ }
     requires need { ⌜ count + 1 ≤ turn .height ⌝ }
     requires long { ⌜ Long (parts parcel) (length (now frame)) ⌝ }
@@ -60,11 +79,19 @@ fn send<H: Host>(parcel: Parcel, turn: Turn, variables: usize, is_super: bool, s
     let base = base(parcel);
     let first = base + (turn.height - count);
     let receiver = frame[base + (turn.height - count - 1)];
-    let message = Message { is_super, selector, receiver, arguments: &frame[first..first + count] };
+    let message = Message {
+        is_super,
+        selector,
+        receiver,
+        arguments: &frame[first..first + count],
+    };
     match host.send(&message) {
         Some(answer) => {
             push_value(frame, base, turn.height - count - 1, answer);
-            Went::On { place: turn.next, height: turn.after }
+            Went::On {
+                place: turn.next,
+                height: turn.after,
+            }
         }
         None => Went::Stopped(Stop::NotUnderstood { selector }),
     }
@@ -76,24 +103,51 @@ fn selector_number(literals: &[u8], k: u32, count: u32) -> u32
     ensures { λ r. ⌜ Some r ≡ selector-of (literal (now (literals .entry)) k) ⌝ }
 {
     match literal_at(literals, k) {
-        Some(Literal::Selector { number, arguments: _ }) => number,
+        Some(
+            Literal::Selector {
+                number,
+                arguments: _,
+            },
+        ) => number,
         _ => unreachable(),
     }
 }
 
 // Sends the message of a short opcode.
-pub fn send_special<H: Host>(parcel: Parcel, turn: Turn, variables: usize, host: &mut H, frame: &mut [Value]) -> Went
+pub fn send_special<H: Host>(
+    parcel: Parcel,
+    turn: Turn,
+    variables: usize,
+    host: &mut H,
+    frame: &mut [Value],
+) -> Went
     requires is { ⌜ turn .operation ≡ Send ⌝ }
     requires fit { ⌜ Fit (parts parcel) turn variables ⌝ }
     requires long { ⌜ Long (parts parcel) (length (now frame)) ⌝ }
     ensures { λ r. ⌜ Runs means may (parts (parcel .entry) .literals) (script-in (parts (parcel .entry)) turn) (now (frame .entry)) (now (host .entry)) (outcome-of r) (now (frame .exit)) (now (host .exit)) ⌝ }
 {
     let opcode = turn.instruction.opcode;
-    send(parcel, turn, variables, false, opcode as u32, argument_count(opcode) as usize, host, frame)
+    send(
+        parcel,
+        turn,
+        variables,
+        false,
+        opcode as u32,
+        argument_count(opcode) as usize,
+        host,
+        frame,
+    )
 }
 
 // Sends the message of a literal selector.
-pub fn send_selector<H: Host>(parcel: Parcel, turn: Turn, variables: usize, is_super: bool, host: &mut H, frame: &mut [Value]) -> Went
+pub fn send_selector<H: Host>(
+    parcel: Parcel,
+    turn: Turn,
+    variables: usize,
+    is_super: bool,
+    host: &mut H,
+    frame: &mut [Value],
+) -> Went
     requires is { ⌜ turn .operation ≡ SendSelector «is_super» ⌝ }
     requires fit { ⌜ Fit (parts parcel) turn variables ⌝ }
     requires long { ⌜ Long (parts parcel) (length (now frame)) ⌝ }
@@ -101,7 +155,16 @@ pub fn send_selector<H: Host>(parcel: Parcel, turn: Turn, variables: usize, is_s
 {
     let a = turn.instruction.argument;
     let selector = selector_number(parcel.literals, a / 256, a % 256);
-    send(parcel, turn, variables, is_super, selector, (a % 256) as usize, host, frame)
+    send(
+        parcel,
+        turn,
+        variables,
+        is_super,
+        selector,
+        (a % 256) as usize,
+        host,
+        frame,
+    )
 }
 
 // The value of a variable or a binding that a host answered for.
@@ -160,7 +223,14 @@ fn special_value(a: u32) -> Value
 }
 
 // The value that a source has.
-fn value_from<H: Host>(parcel: Parcel, turn: Turn, variables: usize, source: Source, host: &H, frame: &[Value]) -> Value
+fn value_from<H: Host>(
+    parcel: Parcel,
+    turn: Turn,
+    variables: usize,
+    source: Source,
+    host: &H,
+    frame: &[Value],
+) -> Value
     requires is { ⌜ turn .operation ≡ Push source ⌝ }
     requires fit { ⌜ Fit (parts parcel) turn variables ⌝ }
     requires long { ⌜ Long (parts parcel) (length (now frame)) ⌝ }
@@ -179,7 +249,14 @@ fn value_from<H: Host>(parcel: Parcel, turn: Turn, variables: usize, source: Sou
 }
 
 // Pushes from a source.
-pub fn push_from<H: Host>(parcel: Parcel, turn: Turn, variables: usize, source: Source, host: &mut H, frame: &mut [Value]) -> Went
+pub fn push_from<H: Host>(
+    parcel: Parcel,
+    turn: Turn,
+    variables: usize,
+    source: Source,
+    host: &mut H,
+    frame: &mut [Value],
+) -> Went
     requires is { ⌜ turn .operation ≡ Push source ⌝ }
     requires fit { ⌜ Fit (parts parcel) turn variables ⌝ }
     requires long { ⌜ Long (parts parcel) (length (now frame)) ⌝ }
@@ -190,7 +267,14 @@ pub fn push_from<H: Host>(parcel: Parcel, turn: Turn, variables: usize, source: 
 }
 
 // Stores the top to a target. After a store to a binding the top is nil.
-pub fn store_to<H: Host>(parcel: Parcel, turn: Turn, variables: usize, target: Target, host: &mut H, frame: &mut [Value]) -> Went
+pub fn store_to<H: Host>(
+    parcel: Parcel,
+    turn: Turn,
+    variables: usize,
+    target: Target,
+    host: &mut H,
+    frame: &mut [Value],
+) -> Went
     requires is { ⌜ turn .operation ≡ Store target ⌝ }
     requires fit { ⌜ Fit (parts parcel) turn variables ⌝ }
     requires long { ⌜ Long (parts parcel) (length (now frame)) ⌝ }
@@ -209,7 +293,10 @@ pub fn store_to<H: Host>(parcel: Parcel, turn: Turn, variables: usize, target: T
             let _ = host.set_variable(a as usize, v);
         }
     }
-    Went::On { place: turn.next, height: turn.after }
+    Went::On {
+        place: turn.next,
+        height: turn.after,
+    }
 }
 
 // The landing place of a jump.
@@ -224,7 +311,14 @@ pub fn land(parcel: Parcel, turn: Turn, direction: Direction) -> usize
 }
 
 // A conditional jump: what is neither true nor false is told that it must be Boolean, and the jump is taken.
-pub fn branch<H: Host>(parcel: Parcel, turn: Turn, variables: usize, when: bool, host: &mut H, frame: &mut [Value]) -> Went
+pub fn branch<H: Host>(
+    parcel: Parcel,
+    turn: Turn,
+    variables: usize,
+    when: bool,
+    host: &mut H,
+    frame: &mut [Value],
+) -> Went
     requires is { ⌜ turn .operation ≡ Branch when ⌝ }
     requires fit { ⌜ Fit (parts parcel) turn variables ⌝ }
     requires long { ⌜ Long (parts parcel) (length (now frame)) ⌝ }
@@ -234,10 +328,21 @@ pub fn branch<H: Host>(parcel: Parcel, turn: Turn, variables: usize, when: bool,
     let height = turn.after;
     let v = frame[base(parcel) + (turn.height - 1)];
     match v {
-        Value::True => Went::On { place: if when { place } else { turn.next }, height },
-        Value::False => Went::On { place: if when { turn.next } else { place }, height },
+        Value::True => Went::On {
+            place: if when { place } else { turn.next },
+            height,
+        },
+        Value::False => Went::On {
+            place: if when { turn.next } else { place },
+            height,
+        },
         _ => {
-            let message = Message { is_super: false, selector: 25, receiver: v, arguments: &[] };
+            let message = Message {
+                is_super: false,
+                selector: 25,
+                receiver: v,
+                arguments: &[],
+            };
             match host.send(&message) {
                 Some(_) => Went::On { place, height },
                 None => Went::Stopped(Stop::NotUnderstood { selector: 25 }),
@@ -247,7 +352,13 @@ pub fn branch<H: Host>(parcel: Parcel, turn: Turn, variables: usize, when: bool,
 }
 
 // A block on top becomes the closure of its number.
-pub fn close<H: Host>(parcel: Parcel, turn: Turn, variables: usize, host: &mut H, frame: &mut [Value]) -> Went
+pub fn close<H: Host>(
+    parcel: Parcel,
+    turn: Turn,
+    variables: usize,
+    host: &mut H,
+    frame: &mut [Value],
+) -> Went
     requires is { ⌜ turn .operation ≡ Close ⌝ }
     requires fit { ⌜ Fit (parts parcel) turn variables ⌝ }
     requires long { ⌜ Long (parts parcel) (length (now frame)) ⌝ }
@@ -258,7 +369,10 @@ pub fn close<H: Host>(parcel: Parcel, turn: Turn, variables: usize, host: &mut H
     match v {
         Value::Block(n) => {
             push_value(frame, base, turn.height - 1, Value::Closure(n));
-            Went::On { place: turn.next, height: turn.after }
+            Went::On {
+                place: turn.next,
+                height: turn.after,
+            }
         }
         _ => Went::Stopped(Stop::NoBlock),
     }

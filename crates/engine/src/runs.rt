@@ -8,6 +8,7 @@ use scripts::State;
 
 // It borrows its parcel, notes the counts of its host, and is in a state at a place and a height. While it is live, the parcel keeps every rule
 // with these counts, and a path reaches the place at the height.
+#[derive(Drop)]
 pub struct Run<'a> {
     pub(crate) parcel: Parcel<'a>,
     pub(crate) variables: usize,

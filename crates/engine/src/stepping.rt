@@ -12,6 +12,7 @@ ghost use Rattle.scripts.specs.Running.{is-live, moved, Steps};
 ghost use mathlib.Core.Bool.{cond};
 ghost use Rattle.std.specs.Options.{Cases as BySome};
 ghost use Rattle.std.specs.declared.option.Option.the-variants.{None};
+ghost use Rattle.histories.specs.Histories.{Carries-on, Every-history-is-safe};
 ghost use Rattle.engine.specs.View.{view};
 use crate::performing::base;
 use crate::performing::branch;
@@ -47,7 +48,13 @@ impl Run<'_> {
                 Some(operation) => {
                     let effect = operation.effect(instruction);
                     let after = self.height - effect.takes as usize + effect.leaves as usize;
-                    Turn { instruction, operation, next: reader.place, height: self.height, after }
+                    Turn {
+                        instruction,
+                        operation,
+                        next: reader.place,
+                        height: self.height,
+                        after,
+                    }
                 }
                 None => unreachable(),
             },
@@ -62,7 +69,11 @@ impl Run<'_> {
         match self.state {
             State::Live => self.fetch(),
             _ => Turn {
-                instruction: Instruction { opcode: 0, argument: 0, pairs: 0 },
+                instruction: Instruction {
+                    opcode: 0,
+                    argument: 0,
+                    pairs: 0,
+                },
                 operation: Operation::Line,
                 next: 0,
                 height: 0,
@@ -81,17 +92,28 @@ impl Run<'_> {
             _ => return None,
         }
         if host.variable_count() != self.variables || host.binding_count() != self.bindings {
-            return Some(Fault { rule: Rule::CountsDiffer, place: self.place });
+            return Some(Fault {
+                rule: Rule::CountsDiffer,
+                place: self.place,
+            });
         }
         let layout = self.parcel.layout;
         if cells < layout.arguments as usize + layout.slots as usize {
-            return Some(Fault { rule: Rule::StepFrameShort, place: self.place });
+            return Some(Fault {
+                rule: Rule::StepFrameShort,
+                place: self.place,
+            });
         }
         None
     }
 
     // Performs a turn of a live run: the run's own state and the operation are read together.
-    fn perform<H: Host>(&mut self, turn: Turn, host: &mut H, frame: &mut [Value]) -> Result<Went, Fault>
+    fn perform<H: Host>(
+        &mut self,
+        turn: Turn,
+        host: &mut H,
+        frame: &mut [Value],
+    ) -> Result<Went, Fault>
         requires turn { ⌜ (now self .state ≡ Live → Next-turn (view (now self)) turn) ⌝ }
         requires long { ⌜ (now self .state ≡ Live → Long (parts (now self .parcel)) (length (now frame))) ⌝ }
         ensures run { λ _. ⌜ view (now (self .exit)) ≡ view (now (self .entry)) ⌝ }
@@ -100,20 +122,66 @@ impl Run<'_> {
         let parcel = self.parcel;
         let variables = self.variables;
         match (self.state, turn.operation) {
-            (State::Ended { how: _, value: _ } | State::Stopped(_), _) => Err(Fault { rule: Rule::RunNotLive, place: self.place }),
-            (State::Live, Operation::Send) => Ok(send_special(parcel, turn, variables, host, frame)),
-            (State::Live, Operation::SendSelector { is_super }) => Ok(send_selector(parcel, turn, variables, is_super, host, frame)),
-            (State::Live, Operation::Push(source)) => Ok(push_from(parcel, turn, variables, source, host, frame)),
-            (State::Live, Operation::Store(target)) => Ok(store_to(parcel, turn, variables, target, host, frame)),
-            (State::Live, Operation::Jump(direction)) => Ok(Went::On { place: land(parcel, turn, direction), height: turn.after }),
-            (State::Live, Operation::Branch { when }) => Ok(branch(parcel, turn, variables, when, host, frame)),
-            (State::Live, Operation::Pop | Operation::Line) => Ok(Went::On { place: turn.next, height: turn.after }),
+            (State::Ended { how: _, value: _ } | State::Stopped(_), _) => Err(Fault {
+                rule: Rule::RunNotLive,
+                place: self.place,
+            }),
+            (State::Live, Operation::Send) => Ok(send_special(
+                parcel,
+                turn,
+                variables,
+                host,
+                frame,
+            )),
+            (State::Live, Operation::SendSelector { is_super }) => Ok(send_selector(
+                parcel,
+                turn,
+                variables,
+                is_super,
+                host,
+                frame,
+            )),
+            (State::Live, Operation::Push(source)) => Ok(push_from(
+                parcel,
+                turn,
+                variables,
+                source,
+                host,
+                frame,
+            )),
+            (State::Live, Operation::Store(target)) => Ok(store_to(
+                parcel,
+                turn,
+                variables,
+                target,
+                host,
+                frame,
+            )),
+            (State::Live, Operation::Jump(direction)) => Ok(Went::On {
+                place: land(parcel, turn, direction),
+                height: turn.after,
+            }),
+            (State::Live, Operation::Branch { when }) => Ok(branch(
+                parcel,
+                turn,
+                variables,
+                when,
+                host,
+                frame,
+            )),
+            (State::Live, Operation::Pop | Operation::Line) => Ok(Went::On {
+                place: turn.next,
+                height: turn.after,
+            }),
             (State::Live, Operation::Duplicate) => {
                 let v = frame[base(parcel) + (turn.height - 1)];
                 Ok(push(parcel, turn, variables, v, host, frame))
             }
             (State::Live, Operation::Close) => Ok(close(parcel, turn, variables, host, frame)),
-            (State::Live, Operation::End(how)) => Ok(Went::Ended { how, value: frame[base(parcel) + (turn.height - 1)] }),
+            (State::Live, Operation::End(how)) => Ok(Went::Ended {
+                how,
+                value: frame[base(parcel) + (turn.height - 1)],
+            }),
         }
     }
 
@@ -149,5 +217,15 @@ impl Run<'_> {
             }
             Err(fault) => Err(fault),
         }
+    }
+
+    // Makes one step on a host with a frame: one instruction, or a refusal that leaves everything. Every list of opening, stepping and collecting
+    // calls is safe.
+    pub fn step<H: Host>(&mut self, host: &mut H, frame: &mut [Value]) -> Result<(), Fault>
+        ensures steps { λ r. ⌜ Steps means may (view (now (self .entry))) (now (host .entry)) (now (frame .entry)) r (view (now (self .exit))) (now (host .exit)) (now (frame .exit)) ⌝ }
+        ensures on { λ _. ⌜ Carries-on means may (now (host .entry)) (view (now (self .entry))) (now (host .exit)) (view (now (self .exit))) ⌝ }
+        ensures safe { λ _. ⌜ Every-history-is-safe means may ⌝ }
+    {
+        self.step_once(host, frame)
     }
 }

@@ -17,21 +17,27 @@ laid f args front cells l h e q = by front e cells q
   where
     n : ℕ
     n = length args
+
     rest : postOf 0 (length args - 0) f ≡ drop (length args) f
     rest = ap (λ (k : ℕ). drop k f) (omega arith)
+
     whole : (front : List Value) → front ≡ args → front ++ postOf 0 (length args - 0) f ≡ args ++ drop (length args) f
     whole front e = λ i. e i ++ rest i
+
     long : length (args ++ drop (length args) f) ≡ length f
     long = length-append args (drop (length args) f) ∙ ap (λ (k : ℕ). length args + k) (length-drop (length args) f) ∙ sum (length args) (length f) (omega arith)
       where
         sum : (a b : ℕ) → a ≤ b → a + (b - a) ≡ b
         sum a b g = omega arith
+
     count : length (midOf (length args) (length args + l - length args) (args ++ drop (length args) f)) ≡ l
     count = mid-len (length args) (length args + l) (args ++ drop (length args) f) (omega (arith, long)) ∙ omega arith
+
     behind : postOf (length args) (length args + l - length args) (args ++ drop (length args) f) ≡ drop (length args + l) f
     behind =
         ap (λ (x : List Value). drop (length args + l - length args) x) (drop-append-seam args (drop (length args) f))
         ∙ drop-drop (length args + l - length args) (length args) f ∙ ap (λ (k : ℕ). drop k f) (omega arith)
+
     by : (front : List Value) → front ≡ args → (cells : List Value) → cells ≡ replicate (length (midOf (length args) (length args + l - length args) (front ++ postOf 0 (length args - 0) f))) Nil
         → putMid (length args) (length args + l - length args) (front ++ postOf 0 (length args - 0) f) cells ≡ args ++ (replicate l Nil ++ drop (length args + l) f)
     by front e cells q =

@@ -64,7 +64,7 @@ returns c =
     let t = c .args .self .now .ready (c .pre) in
     let s = stands d in
     let following : c .advance .last .self .place ≡ c .args .self .now .place + 2 * c .in-Ok .instruction .pairs =
-        c .in-Ok .ensures tt .place ∙ ap (λ (x : ℕ). x + 2 * c .in-Ok .instruction .pairs) (c .at-reader .ensures .place) in
+    c .in-Ok .ensures tt .place ∙ ap (λ (x : ℕ). x + 2 * c .in-Ok .instruction .pairs) (c .at-reader .ensures .place) in
     record {
       stands = s;
       following = following;

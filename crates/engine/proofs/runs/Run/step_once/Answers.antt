@@ -17,5 +17,5 @@ settle-requires g c κs =
       live = ap (λ (r : Running). r .state) e ∙ w .0;
       turn = subst (λ (r : Running). Next-turn r t) (sym e) n;
       leads = subst (λ (r : Running). (p h : ℕ) → outcome-of (c .in-Ok .went) ≡ goes p h → Led (r .parts .code) (r .place) t p h) (sym e)
-        (led (g .H·Host .means) (g .H·Host .may) (view (c .args .self .now)) t (c .args .frame .now) (c .args .host .now) (c .in-Ok .went) (c .perform .last .frame) (c .perform .last .host) n (w .1));
+          (led (g .H·Host .means) (g .H·Host .may) (view (c .args .self .now)) t (c .args .frame .now) (c .args .host .now) (c .in-Ok .went) (c .perform .last .frame) (c .perform .last .host) n (w .1));
     }
