@@ -1,0 +1,87 @@
+// The layer as a host.
+ghost use mathlib.Core.Path.{_≡_};
+ghost use Rattle.arithmetic.specs.Layer.{layered, May-layered};
+ghost use Rattle.arithmetic.specs.Laws.{Divides, Computes, Compares, Divides-never-by-zero, Only-these, Tried};
+use crate::answers::own_answer;
+use hosts::Host;
+use hosts::Message;
+use values::Fault;
+use values::Value;
+
+// Arithmetic over the host below.
+#[derive(Drop)]
+pub struct Arithmetic<H> {
+    below: H,
+}
+
+impl<H> Arithmetic<H> {
+    // Arithmetic over this host.
+    pub fn new(below: H) -> Arithmetic<H>
+        ensures holds { λ r. ⌜ r .below ≡ below ⌝ }
+        ensures divides { λ _. ⌜ Divides ⌝ }
+        ensures computes { λ _. ⌜ Computes ⌝ }
+        ensures compares { λ _. ⌜ Compares ⌝ }
+        ensures nonzero { λ _. ⌜ Divides-never-by-zero ⌝ }
+        ensures only { λ _. ⌜ Only-these ⌝ }
+        ensures tried { λ _. ⌜ Tried ⌝ }
+    {
+        Arithmetic { below }
+    }
+
+    // The host below, with all that was written.
+    pub fn into_below(self) -> H
+        ensures { λ r. ⌜ r ≡ self .below ⌝ }
+    {
+        let Arithmetic { below } = self;
+        below
+    }
+}
+
+pub impl<H: Host> Host for Arithmetic<H> as ArithmeticHost {
+    ghost means = { λ s. layered (H·Host .means (s .below)) };
+
+    ghost may = { λ s m v t. May-layered (H·Host .may) (s .below) m v (t .below) };
+
+    fn receiver(&self) -> Value {
+        self.below.receiver()
+    }
+
+    fn variable_count(&self) -> usize {
+        self.below.variable_count()
+    }
+
+    fn binding_count(&self) -> usize {
+        self.below.binding_count()
+    }
+
+    fn variable_trusted(&self, i: usize) -> Result<bool, Fault> {
+        self.below.variable_trusted(i)
+    }
+
+    fn binding_trusted(&self, i: usize) -> Result<bool, Fault> {
+        self.below.binding_trusted(i)
+    }
+
+    fn variable(&self, i: usize) -> Result<Value, Fault> {
+        self.below.variable(i)
+    }
+
+    fn binding(&self, i: usize) -> Result<Value, Fault> {
+        self.below.binding(i)
+    }
+
+    fn set_variable(&mut self, i: usize, v: Value) -> Result<(), Fault> {
+        self.below.set_variable(i, v)
+    }
+
+    fn set_binding(&mut self, i: usize, v: Value) -> Result<(), Fault> {
+        self.below.set_binding(i, v)
+    }
+
+    fn send(&mut self, m: &Message) -> Option<Value> {
+        match own_answer(m) {
+            Some(v) => Some(v),
+            None => self.below.send(m),
+        }
+    }
+}
