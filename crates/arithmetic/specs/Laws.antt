@@ -1,22 +1,19 @@
 -- What is true of the arithmetic, in the words of the integers.
 use mathlib.Core.Path.{_≡_}
 use mathlib.Core.Bool.{false}
-use mathlib.Core.List.{List, [], _∷_}
+use mathlib.Core.List.{[], _∷_, map}
 use mathlib.Core.Logic.{_⊎_, _≢_}
 use Prim.Native.Nat.{ℕ, _<_}
 use lib.IntN.{ℤ, pos, negsuc, natAbs, _+ℤ_, _-ℤ_, _*ℤ_}
 use lib.Signed.{_≤ℤ_, _<ℤ_}
-use Rattle.std.specs.Options.{Cases}
 use Rattle.std.specs.shelf.Lists.{Has}
-use Rattle.std.specs.declared.option.Option.{Option}
 use Rattle.std.specs.declared.option.Option.the-variants.{Some, None}
-use Rattle.values.specs.Small.{small}
 use Rattle.values.specs.declared.small.SmallInteger.{SmallInteger}
 use Rattle.values.specs.declared.kinds.Value.{Value}
 use Rattle.values.specs.declared.kinds.Value.the-variants.{True, False, Integer}
 use Rattle.hosts.specs.Meaning.{Sent}
 use Rattle.arithmetic.specs.Division.{floor-quotient, floor-remainder}
-use Rattle.arithmetic.specs.Operators.{integer-of}
+use Rattle.arithmetic.specs.Operators.{integer-of, table, between}
 use Rattle.arithmetic.specs.Own.{own}
 
 -- the message with selector s to x, with the argument y
@@ -33,9 +30,17 @@ pub record Divided (x y q r : ℤ) : Type 0 where
 abbrev pub Divides : Type 0
 Divides = (x y : ℤ) → y ≢ pos 0 → Divided x y (floor-quotient x y) (floor-remainder x y)
 
+-- the least of the small integers, -1073741824
+abbrev pub least : ℤ
+least = negsuc 1073741823
+
+-- the greatest
+abbrev pub greatest : ℤ
+greatest = pos 1073741823
+
 -- the range of the small integers
 abbrev pub In-range : ℤ → Type 0
-In-range z = (negsuc 1073741823 ≤ℤ z) × (z ≤ℤ pos 1073741823)
+In-range z = (least ≤ℤ z) × (z ≤ℤ greatest)
 
 -- the answer to m is z if z lies in the range, and else the layer has none
 pub record Gives (m : Sent) (z : ℤ) : Type 0 where
@@ -75,20 +80,30 @@ pub record Compared (x y : SmallInteger) : Type 0 where
 abbrev pub Compares : Type 0
 Compares = (x y : SmallInteger) → Compared x y
 
--- the selector numbers of the eleven operators
-abbrev pub numbers : List ℕ
-numbers = 0 ∷ 1 ∷ 2 ∷ 3 ∷ 4 ∷ 5 ∷ 6 ∷ 7 ∷ 8 ∷ 10 ∷ 13 ∷ []
-
--- the layer answers nothing but these messages between two small integers
+-- the layer answers no messages but these, between two small integers
 abbrev pub Only-these : Type 0
 Only-these =
     (m : Sent) (v : Value) → own m ≡ Some v →
-    Has numbers (m .selector) × ((x : SmallInteger) × (y : SmallInteger) × (m ≡ asks (m .selector) x y))
+    Has (map (λ e. e .0) table) (m .selector) × ((x : SmallInteger) × (y : SmallInteger) × (m ≡ asks (m .selector) x y))
 
--- the layer's own answer to selector s between two integers, where both are small
-abbrev pub between : ℕ → ℤ → ℤ → Option Value
-between s a b = elim (small a) [ None ↦ None | Some x ↦ elim (small b) [ None ↦ None | Some y ↦ own (asks s x y) ] ]
-
--- some that were worked out by hand; the greatest is 1073741823, and the least is one below -1073741823
+-- some that were worked out by hand; `negsuc n` is -n - 1
 pub record Tried : Type 0 where
-  pub floor-down : between 13 (negsuc 6) (pos 2) ≡ integer-of (negsuc 3)
+  pub down : between 13 (negsuc 6) (pos 2) ≡ integer-of (negsuc 3)
+  pub down-too : between 13 (pos 7) (negsuc 1) ≡ integer-of (negsuc 3)
+  pub up-to : between 13 (negsuc 6) (negsuc 1) ≡ integer-of (pos 3)
+  pub left : between 10 (negsuc 6) (pos 2) ≡ integer-of (pos 1)
+  pub left-negative : between 10 (pos 7) (negsuc 1) ≡ integer-of (negsuc 0)
+  pub left-none : between 10 (negsuc 7) (pos 2) ≡ integer-of (pos 0)
+  pub least-by-minus-one : between 13 least (negsuc 0) ≡ None
+  pub least-left : between 10 least (negsuc 0) ≡ integer-of (pos 0)
+  pub product-inside : between 8 (pos 32768) (pos 32767) ≡ integer-of (pos 1073709056)
+  pub product-outside : between 8 (pos 32768) (pos 32768) ≡ None
+  pub product-least : between 8 (pos 32768) (negsuc 32767) ≡ integer-of least
+  pub sum-inside : between 0 (pos 1073741822) (pos 1) ≡ integer-of greatest
+  pub sum-outside : between 0 greatest (pos 1) ≡ None
+  pub difference-inside : between 1 (negsuc 1073741822) (pos 1) ≡ integer-of least
+  pub difference-outside : between 1 least (pos 1) ≡ None
+  pub by-zero : between 13 (pos 5) (pos 0) ≡ None
+  pub by-zero-left : between 10 (pos 5) (pos 0) ≡ None
+  pub less-equal : between 2 (pos 3) (pos 3) ≡ Some False
+  pub at-most-equal : between 4 (pos 3) (pos 3) ≡ Some True

@@ -1,5 +1,6 @@
 -- The operators on small integers, by their selector numbers.
 use mathlib.Core.Bool.{Bool, true, false, cond, not}
+use mathlib.Core.List.{List, [], _∷_}
 use Prim.Native.Nat.{ℕ}
 use lib.Dec.{eqb}
 use lib.IntN.{ℤ, pos, negsuc, _+ℤ_, _-ℤ_, _*ℤ_}
@@ -14,20 +15,30 @@ use Rattle.arithmetic.specs.declared.operators.Operator.{Operator}
 use Rattle.arithmetic.specs.declared.operators.Operator.the-variants.{Add, Subtract, Less, Greater, AtMost, AtLeast, Equal, Unequal, Multiply, Remainder, Quotient}
 use Rattle.arithmetic.specs.Division.{floor-quotient, floor-remainder}
 
+-- the selector number of every operator
+abbrev pub table : List (ℕ × Operator)
+table =
+    (0, Add)
+    ∷ (1, Subtract)
+    ∷ (2, Less)
+    ∷ (3, Greater)
+    ∷ (4, AtMost)
+    ∷ (5, AtLeast)
+    ∷ (6, Equal)
+    ∷ (7, Unequal)
+    ∷ (8, Multiply)
+    ∷ (10, Remainder)
+    ∷ (13, Quotient)
+    ∷ []
+
+-- the operator beside s
+abbrev pub beside : ℕ → List (ℕ × Operator) → Option Operator
+beside s [] = None
+beside s (e ∷ es) = cond (eqb s (e .0)) (Some (e .1)) (beside s es)
+
 -- the operator that a selector number stands for
 abbrev pub operator-of : ℕ → Option Operator
-operator-of s =
-    cond (eqb s 0) (Some Add)
-    (cond (eqb s 1) (Some Subtract)
-    (cond (eqb s 2) (Some Less)
-    (cond (eqb s 3) (Some Greater)
-    (cond (eqb s 4) (Some AtMost)
-    (cond (eqb s 5) (Some AtLeast)
-    (cond (eqb s 6) (Some Equal)
-    (cond (eqb s 7) (Some Unequal)
-    (cond (eqb s 8) (Some Multiply)
-    (cond (eqb s 10) (Some Remainder)
-    (cond (eqb s 13) (Some Quotient) None))))))))))
+operator-of s = beside s table
 
 -- true or false, as a value
 abbrev pub truth : Bool → Value
@@ -58,3 +69,12 @@ applied Unequal x y = Some (truth (not (eqZ x y)))
 applied Multiply x y = integer-of (x *ℤ y)
 applied Remainder x y = cond (eqZ y (pos 0)) None (integer-of (floor-remainder x y))
 applied Quotient x y = cond (eqZ y (pos 0)) None (integer-of (floor-quotient x y))
+
+-- what an operator gives, if there is one
+abbrev pub by-operator : Option Operator → ℤ → ℤ → Option Value
+by-operator (Some o) x y = applied o x y
+by-operator None x y = None
+
+-- what the message with selector s to x gives, with the argument y
+abbrev pub between : ℕ → ℤ → ℤ → Option Value
+between s x y = by-operator (operator-of s) x y

@@ -8,17 +8,11 @@ use Rattle.values.specs.declared.small.SmallInteger.{SmallInteger}
 use Rattle.values.specs.declared.kinds.Value.{Value}
 use Rattle.values.specs.declared.kinds.Value.the-variants.{Nil, True, False, Integer, Object, Block, Closure}
 use Rattle.hosts.specs.Meaning.{Sent}
-use Rattle.arithmetic.specs.declared.operators.Operator.{Operator}
-use Rattle.arithmetic.specs.Operators.{operator-of, applied}
-
--- by the operator, if there is one
-abbrev pub by-operator : Option Operator → SmallInteger → SmallInteger → Option Value
-by-operator (Some o) x y = applied o (x .value) (y .value)
-by-operator None x y = None
+use Rattle.arithmetic.specs.Operators.{between}
 
 -- by the argument: a small integer and nothing else
 abbrev pub by-argument : ℕ → SmallInteger → Value → Option Value
-by-argument s x (Integer y) = by-operator (operator-of s) x y
+by-argument s x (Integer y) = between s (x .value) (y .value)
 by-argument s x Nil = None
 by-argument s x True = None
 by-argument s x False = None
