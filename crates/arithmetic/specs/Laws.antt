@@ -30,6 +30,10 @@ pub record Divided (x y q r : ℤ) : Type 0 where
 abbrev pub Divides : Type 0
 Divides = (x y : ℤ) → y ≢ pos 0 → Divided x y (floor-quotient x y) (floor-remainder x y)
 
+-- no other quotient and no other remainder do
+abbrev pub Divides-only-so : Type 0
+Divides-only-so = (x y q r : ℤ) → Divided x y q r → (q ≡ floor-quotient x y) × (r ≡ floor-remainder x y)
+
 -- the least of the small integers, -1073741824
 abbrev pub least : ℤ
 least = negsuc 1073741823

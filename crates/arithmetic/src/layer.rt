@@ -1,7 +1,9 @@
 // The layer as a host.
 ghost use mathlib.Core.Path.{_≡_};
-ghost use Rattle.arithmetic.specs.Layer.{layered, May-layered};
-ghost use Rattle.arithmetic.specs.Laws.{Divides, Computes, Compares, Divides-never-by-zero, Only-these, Tried};
+ghost use Rattle.hosts.specs.Meaning.{place-of, with-variable, with-binding, Answered};
+ghost use Rattle.hosts.specs.Sending.{sent};
+ghost use Rattle.arithmetic.specs.Layer.{layered, May-layered, By-itself, Passed-on};
+ghost use Rattle.arithmetic.specs.Laws.{Divides, Divides-only-so, Computes, Compares, Divides-never-by-zero, Only-these, Tried};
 use crate::answers::own_answer;
 use hosts::Host;
 use hosts::Message;
@@ -19,6 +21,7 @@ impl<H> Arithmetic<H> {
     pub fn new(below: H) -> Arithmetic<H>
         ensures holds { λ r. ⌜ r .below ≡ below ⌝ }
         ensures divides { λ _. ⌜ Divides ⌝ }
+        ensures only_so { λ _. ⌜ Divides-only-so ⌝ }
         ensures computes { λ _. ⌜ Computes ⌝ }
         ensures compares { λ _. ⌜ Compares ⌝ }
         ensures nonzero { λ _. ⌜ Divides-never-by-zero ⌝ }
@@ -70,15 +73,27 @@ pub impl<H: Host> Host for Arithmetic<H> as ArithmeticHost {
         self.below.binding(i)
     }
 
-    fn set_variable(&mut self, i: usize, v: Value) -> Result<(), Fault> {
+    fn set_variable(&mut self, i: usize, v: Value) -> Result<(), Fault>
+        ensures answer { λ r. ⌜ r ≡ place-of (H·Host .means (now (self .entry) .below) .variables) i ⌝ }
+        ensures after { λ _. ⌜ layered (H·Host .means (now (self .exit) .below)) ≡ with-variable (layered (H·Host .means (now (self .entry) .below))) i v ⌝ }
+        ensures below { λ _. ⌜ H·Host .means (now (self .exit) .below) ≡ with-variable (H·Host .means (now (self .entry) .below)) i v ⌝ }
+    {
         self.below.set_variable(i, v)
     }
 
-    fn set_binding(&mut self, i: usize, v: Value) -> Result<(), Fault> {
+    fn set_binding(&mut self, i: usize, v: Value) -> Result<(), Fault>
+        ensures answer { λ r. ⌜ r ≡ place-of (H·Host .means (now (self .entry) .below) .bindings) i ⌝ }
+        ensures after { λ _. ⌜ layered (H·Host .means (now (self .exit) .below)) ≡ with-binding (layered (H·Host .means (now (self .entry) .below))) i v ⌝ }
+        ensures below { λ _. ⌜ H·Host .means (now (self .exit) .below) ≡ with-binding (H·Host .means (now (self .entry) .below)) i v ⌝ }
+    {
         self.below.set_binding(i, v)
     }
 
-    fn send(&mut self, m: &Message) -> Option<Value> {
+    fn send(&mut self, m: &Message) -> Option<Value>
+        ensures answer { λ r. ⌜ Answered (λ s. layered (H·Host .means s)) (May-layered (H·Host .may)) (now (self .entry) .below) (sent (now (m .entry))) r (now (self .exit) .below) ⌝ }
+        ensures itself { λ r. ⌜ By-itself (now (self .entry) .below) (sent (now (m .entry))) r (now (self .exit) .below) ⌝ }
+        ensures passes { λ r. ⌜ Passed-on (H·Host .means) (H·Host .may) (now (self .entry) .below) (sent (now (m .entry))) r (now (self .exit) .below) ⌝ }
+    {
         match own_answer(m) {
             Some(v) => Some(v),
             None => self.below.send(m),

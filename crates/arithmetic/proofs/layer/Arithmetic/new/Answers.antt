@@ -1,6 +1,6 @@
 use mathlib.Core.Path.{refl}
 use Rattle.arithmetic.proofs.Comparisons.{compares}
-use Rattle.arithmetic.proofs.Divisions.{divides}
+use Rattle.arithmetic.proofs.Divisions.{divides, only-so}
 use Rattle.arithmetic.proofs.Others.{only-these}
 use Rattle.arithmetic.proofs.Results.{computes, never-by-zero}
 use Rattle.arithmetic.proofs.layer.Arithmetic.new.Needs as need
@@ -9,6 +9,7 @@ pub returns : need.returns
 returns g c = record {
   holds = refl;
   divides = divides;
+  only-so = only-so;
   computes = computes;
   compares = compares;
   nonzero = never-by-zero;
