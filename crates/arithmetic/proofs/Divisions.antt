@@ -64,21 +64,21 @@ cancelled z r s e = omega (arith, ints)
 module _ (n : ℕ) where
   not-below : (p q : ℤ) (i k : ℕ) → i < n → p *ℤ pos n +ℤ pos i ≡ q *ℤ pos n +ℤ pos k → p <ℤ q → ⊥
   not-below p q i k h e l =
-    let m : (up p + down q + 1) * n ≤ (up q + down p) * n = mul-le-mul-right n (omega (arith, ints)) in
-    omega (arith, ints, m, add-mul (up p + down q) 1 n, add-mul (up p) (down q) n, add-mul (up q) (down p) n)
+      let m : (up p + down q + 1) * n ≤ (up q + down p) * n = mul-le-mul-right n (omega (arith, ints)) in
+      omega (arith, ints, m, add-mul (up p + down q) 1 n, add-mul (up p) (down q) n, add-mul (up q) (down p) n)
 
   one-quotient : (p q : ℤ) (i k : ℕ) → i < n → k < n → p *ℤ pos n +ℤ pos i ≡ q *ℤ pos n +ℤ pos k → p ≡ q
   one-quotient p q i k f g e =
-    by-ltZ p q (λ l. absurd (not-below p q i k f e l)) (λ l. by-ltZ q p (λ m. absurd (not-below q p k i g (sym e) m)) (λ m. omega (arith, ints)))
+      by-ltZ p q (λ l. absurd (not-below p q i k f e l)) (λ l. by-ltZ q p (λ m. absurd (not-below q p k i g (sym e) m)) (λ m. omega (arith, ints)))
 
   only-by : (x q r : ℤ) (k : ℕ) → 0 < n → x ≡ q *ℤ pos n +ℤ r → r ≡ pos k → k < n → (q ≡ divEuclid x (pos n)) × (r ≡ remEuclid x (pos n))
   only-by x q r k h e f l =
-    let w = rest-by x n h in
-    let whole : divEuclid x (pos n) *ℤ pos n +ℤ pos (w .0) ≡ x = sym (whole-by x n h ∙ ap (λ z. divEuclid x (pos n) *ℤ pos n +ℤ z) (w .2)) in
-    let same : q ≡ divEuclid x (pos n) = one-quotient q (divEuclid x (pos n)) k (w .0) l (w .1) (sym (e ∙ ap (λ z. q *ℤ pos n +ℤ z) f) ∙ sym whole) in
-    let all : q *ℤ pos n +ℤ r ≡ q *ℤ pos n +ℤ remEuclid x (pos n) =
-    sym e ∙ whole-by x n h ∙ sym (ap (λ z. z *ℤ pos n +ℤ remEuclid x (pos n)) same) in
-    (same, cancelled (q *ℤ pos n) r (remEuclid x (pos n)) all)
+      let w = rest-by x n h in
+      let whole : divEuclid x (pos n) *ℤ pos n +ℤ pos (w .0) ≡ x = sym (whole-by x n h ∙ ap (λ z. divEuclid x (pos n) *ℤ pos n +ℤ z) (w .2)) in
+      let same : q ≡ divEuclid x (pos n) = one-quotient q (divEuclid x (pos n)) k (w .0) l (w .1) (sym (e ∙ ap (λ z. q *ℤ pos n +ℤ z) f) ∙ sym whole) in
+      let all : q *ℤ pos n +ℤ r ≡ q *ℤ pos n +ℤ remEuclid x (pos n) =
+      sym e ∙ whole-by x n h ∙ sym (ap (λ z. z *ℤ pos n +ℤ remEuclid x (pos n)) same) in
+      (same, cancelled (q *ℤ pos n) r (remEuclid x (pos n)) all)
 
 not-negative : (n : ℕ) (r : ℤ) → (r ≡ pos 0) ⊎ ((pos 0 <ℤ pos n) × (pos 0 <ℤ r)) ⊎ ((pos n <ℤ pos 0) × (r <ℤ pos 0)) → r ≡ pos (natAbs r)
 not-negative n r (inl e) = e ∙ sym (ap (λ z. pos (natAbs z)) e)

@@ -20,7 +20,7 @@ use Rattle.hosts.specs.Meaning.{Sent}
 use Rattle.arithmetic.specs.Division.{floor-quotient, floor-remainder}
 use Rattle.arithmetic.specs.Operators.{eqZ, integer-of}
 use Rattle.arithmetic.specs.Own.{own}
-use Rattle.arithmetic.specs.Laws.{asks, In-range, Gives, Computes, Divides-never-by-zero}
+use Rattle.arithmetic.specs.Laws.{asks, In-range, Gives, Computes, Never-by-zero}
 
 -- a divisor other than 0
 pub unless-zero : (o : Option Value) (y : ℤ) → y ≢ pos 0 → cond (eqZ y (pos 0)) None o ≡ o
@@ -50,7 +50,8 @@ computes x y = record {
   quotient = λ h. gives (asks 13 x y) (floor-quotient (x .value) (y .value)) (unless-zero _ (y .value) h);
 }
 
-pub never-by-zero : Divides-never-by-zero
-never-by-zero x y e =
-    (ap (λ z. cond (eqZ z (pos 0)) None (integer-of (floor-remainder (x .value) z))) e,
-    ap (λ z. cond (eqZ z (pos 0)) None (integer-of (floor-quotient (x .value) z))) e)
+pub never-by-zero : Never-by-zero
+never-by-zero x y e = (
+  ap (λ z. cond (eqZ z (pos 0)) None (integer-of (floor-remainder (x .value) z))) e,
+  ap (λ z. cond (eqZ z (pos 0)) None (integer-of (floor-quotient (x .value) z))) e,
+)

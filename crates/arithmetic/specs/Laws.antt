@@ -64,8 +64,8 @@ abbrev pub Computes : Type 0
 Computes = (x y : SmallInteger) → Computed x y
 
 -- by 0 there is neither a remainder nor a quotient
-abbrev pub Divides-never-by-zero : Type 0
-Divides-never-by-zero = (x y : SmallInteger) → y .value ≡ pos 0 → (own (asks 10 x y) ≡ None) × (own (asks 13 x y) ≡ None)
+abbrev pub Never-by-zero : Type 0
+Never-by-zero = (x y : SmallInteger) → y .value ≡ pos 0 → (own (asks 10 x y) ≡ None) × (own (asks 13 x y) ≡ None)
 
 -- the answer to m is true and P holds, or it is false and P does not
 abbrev pub Tells : Sent → Type 0 → Type 0

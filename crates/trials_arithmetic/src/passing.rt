@@ -20,7 +20,32 @@ use week_file::WeekFileHost;
 
 // The file after 2 went into variable 0 and nil into binding 0.
 const WRITTEN: [u8; 26] = [
-    0, 1, 0, 2, 0, 0, 0, 42, 0, 3, 0, 0, 0, 2, 1, 0, 0, 0, 0, 0, 0, 1, 0, 0, 0, 0,
+    0,
+    1,
+    0,
+    2,
+    0,
+    0,
+    0,
+    42,
+    0,
+    3,
+    0,
+    0,
+    0,
+    2,
+    1,
+    0,
+    0,
+    0,
+    0,
+    0,
+    0,
+    1,
+    0,
+    0,
+    0,
+    0,
 ];
 
 // The fault of a cell that is not there.
@@ -33,12 +58,14 @@ fn missing(i: usize) -> Fault {
 
 // What comes of a message without arguments.
 fn asked(host: &mut impl Host, receiver: Value, selector: u32) -> Option<Value> {
-    host.send(&Message {
-        is_super: false,
-        selector,
-        receiver,
-        arguments: &[],
-    })
+    host.send(
+        &Message {
+            is_super: false,
+            selector,
+            receiver,
+            arguments: &[],
+        },
+    )
 }
 
 #[test]
@@ -137,7 +164,10 @@ fn a_layer_over_a_refused_file(rt: LibcRuntime) -> Result<(), Fail> {
     check_eq(host.receiver(), Value::Nil)?;
     check_eq(host.variable_count(), 0)?;
     check_eq(host.variable(0), Err(missing(0)))?;
-    check_eq(between(&mut host, 32768, 8, 32767), Some(int(1_073_709_056)))?;
+    check_eq(
+        between(&mut host, 32768, 8, 32767),
+        Some(int(1_073_709_056)),
+    )?;
     check_eq(asked(&mut host, Value::True, 21), Some(Value::True))?;
     check_eq(host.set_variable(0, int(2)), Err(missing(0)))?;
     let bytes = host.into_below().into_bytes();

@@ -12,7 +12,32 @@ use week_file::WeekFileHost;
 
 // One variable, open, -7; two bindings, object 100, trusted, and true, open; the receiver is object 42.
 pub(crate) const WEEK: [u8; 26] = [
-    0, 1, 0, 2, 0, 0, 0, 42, 0, 3, 255, 255, 255, 249, 1, 4, 0, 0, 0, 100, 0, 1, 0, 0, 0, 0,
+    0,
+    1,
+    0,
+    2,
+    0,
+    0,
+    0,
+    42,
+    0,
+    3,
+    255,
+    255,
+    255,
+    249,
+    1,
+    4,
+    0,
+    0,
+    0,
+    100,
+    0,
+    1,
+    0,
+    0,
+    0,
+    0,
 ];
 
 // The layer over that file.
@@ -32,10 +57,12 @@ pub(crate) fn int(n: i32) -> Value {
 
 // What comes of a message between a and b.
 pub(crate) fn between(host: &mut impl Host, a: i32, selector: u32, b: i32) -> Option<Value> {
-    host.send(&Message {
-        is_super: false,
-        selector,
-        receiver: int(a),
-        arguments: &[int(b)],
-    })
+    host.send(
+        &Message {
+            is_super: false,
+            selector,
+            receiver: int(a),
+            arguments: &[int(b)],
+        },
+    )
 }
