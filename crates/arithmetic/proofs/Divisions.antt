@@ -10,7 +10,7 @@ use lib.IntN.{ℤ, pos, negsuc, negℤ, natAbs, _+ℤ_, _*ℤ_, negℤ-negℤ, n
 use lib.Signed.{ltZ, _<ℤ_}
 use Rattle.std.specs.Numbers.{divEuclid, remEuclid}
 use Rattle.std.proofs.shelf.Signed.{ints, by-ltZ}
-use Rattle.arithmetic.specs.Division.{floor-quotient, floor-remainder}
+use Rattle.arithmetic.specs.Division.{floor-remainder}
 use Rattle.arithmetic.specs.Laws.{Divides, Divides-only-so}
 
 -- by a negative divisor

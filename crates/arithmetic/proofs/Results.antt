@@ -20,7 +20,8 @@ use Rattle.hosts.specs.Meaning.{Sent}
 use Rattle.arithmetic.specs.Division.{floor-quotient, floor-remainder}
 use Rattle.arithmetic.specs.Operators.{eqZ, integer-of}
 use Rattle.arithmetic.specs.Own.{own}
-use Rattle.arithmetic.specs.Laws.{asks, In-range, Gives, Computes, Never-by-zero}
+use Rattle.arithmetic.specs.Laws.{asks, In-range, Gives, Computes, Always-left, Never-by-zero}
+use Rattle.arithmetic.proofs.Divisions.{divides}
 
 -- a divisor other than 0
 pub unless-zero : (o : Option Value) (y : ℤ) → y ≢ pos 0 → cond (eqZ y (pos 0)) None o ≡ o
@@ -49,6 +50,11 @@ computes x y = record {
   remainder = λ h. gives (asks 10 x y) (floor-remainder (x .value) (y .value)) (unless-zero _ (y .value) h);
   quotient = λ h. gives (asks 13 x y) (floor-quotient (x .value) (y .value)) (unless-zero _ (y .value) h);
 }
+
+pub always-left : Always-left
+always-left x y h =
+    let d = divides (x .value) (y .value) h .smaller in
+    (omega (arith, ints, d, y .low, y .high), omega (arith, ints, d, y .low, y .high))
 
 pub never-by-zero : Never-by-zero
 never-by-zero x y e = (

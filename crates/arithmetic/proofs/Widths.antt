@@ -1,5 +1,5 @@
 -- Small integers in 64 bits.
-use mathlib.Core.Path.{_≡_, sym, ap, subst, _∙_}
+use mathlib.Core.Path.{_≡_, ap, subst, _∙_}
 use borrow.Author.Numbers.{signed-product}
 use native.Mathlib.Omega.{arith}
 use lib.IntN.{ℤ, _+ℤ_, _-ℤ_, _*ℤ_}

@@ -63,6 +63,10 @@ pub record Computed (x y : SmallInteger) : Type 0 where
 abbrev pub Computes : Type 0
 Computes = (x y : SmallInteger) → Computed x y
 
+-- a remainder is always in the range
+abbrev pub Always-left : Type 0
+Always-left = (x y : SmallInteger) → y .value ≢ pos 0 → In-range (floor-remainder (x .value) (y .value))
+
 -- by 0 there is neither a remainder nor a quotient
 abbrev pub Never-by-zero : Type 0
 Never-by-zero = (x y : SmallInteger) → y .value ≡ pos 0 → (own (asks 10 x y) ≡ None) × (own (asks 13 x y) ≡ None)

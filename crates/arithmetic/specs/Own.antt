@@ -3,7 +3,7 @@ use mathlib.Core.Bool.{cond}
 use mathlib.Core.List.{List, [], _∷_}
 use Prim.Native.Nat.{ℕ}
 use Rattle.std.specs.declared.option.Option.{Option}
-use Rattle.std.specs.declared.option.Option.the-variants.{Some, None}
+use Rattle.std.specs.declared.option.Option.the-variants.{None}
 use Rattle.values.specs.declared.small.SmallInteger.{SmallInteger}
 use Rattle.values.specs.declared.kinds.Value.{Value}
 use Rattle.values.specs.declared.kinds.Value.the-variants.{Nil, True, False, Integer, Object, Block, Closure}

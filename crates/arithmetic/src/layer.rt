@@ -3,7 +3,7 @@ ghost use mathlib.Core.Path.{_≡_};
 ghost use Rattle.hosts.specs.Meaning.{place-of, with-variable, with-binding, Answered};
 ghost use Rattle.hosts.specs.Sending.{sent};
 ghost use Rattle.arithmetic.specs.Layer.{layered, May-layered, By-itself, Passed-on};
-ghost use Rattle.arithmetic.specs.Laws.{Divides, Divides-only-so, Computes, Never-by-zero, Compares, Only-these, Tried};
+ghost use Rattle.arithmetic.specs.Laws.{Divides, Divides-only-so, Computes, Always-left, Never-by-zero, Compares, Only-these, Tried};
 use crate::answers::own_answer;
 use hosts::Host;
 use hosts::Message;
@@ -23,6 +23,7 @@ impl<H> Arithmetic<H> {
         ensures divides { λ _. ⌜ Divides ⌝ }
         ensures only_so { λ _. ⌜ Divides-only-so ⌝ }
         ensures computes { λ _. ⌜ Computes ⌝ }
+        ensures left { λ _. ⌜ Always-left ⌝ }
         ensures by_zero { λ _. ⌜ Never-by-zero ⌝ }
         ensures compares { λ _. ⌜ Compares ⌝ }
         ensures only { λ _. ⌜ Only-these ⌝ }

@@ -1,6 +1,5 @@
 // What the trials share: a week file, and messages between two integers.
 use arithmetic::Arithmetic;
-use arithmetic::ArithmeticHost;
 use hosts::Host;
 use hosts::Message;
 use std::alloc::AllocError;
@@ -8,7 +7,6 @@ use std::alloc::Global;
 use values::SmallInteger;
 use values::Value;
 use week_file::WeekFile;
-use week_file::WeekFileHost;
 
 // One variable, open, -7; two bindings, object 100, trusted, and true, open; the receiver is object 42.
 pub(crate) const WEEK: [u8; 26] = [

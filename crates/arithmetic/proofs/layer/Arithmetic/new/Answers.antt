@@ -2,7 +2,7 @@ use mathlib.Core.Path.{refl}
 use Rattle.arithmetic.proofs.Comparisons.{compares}
 use Rattle.arithmetic.proofs.Divisions.{divides, only-so}
 use Rattle.arithmetic.proofs.Others.{only-these}
-use Rattle.arithmetic.proofs.Results.{computes, never-by-zero}
+use Rattle.arithmetic.proofs.Results.{computes, always-left, never-by-zero}
 use Rattle.arithmetic.proofs.layer.Arithmetic.new.Needs as need
 
 pub returns : need.returns
@@ -11,6 +11,7 @@ returns g c = record {
   divides = divides;
   only-so = only-so;
   computes = computes;
+  left = always-left;
   by-zero = never-by-zero;
   compares = compares;
   only = only-these;
