@@ -14,89 +14,93 @@ const LEAST: i32 = -1_073_741_824;
 
 const GREATEST: i32 = 1_073_741_823;
 
-// The answer is the integer n.
-fn gives(host: &mut impl Host, a: i32, selector: u32, b: i32, n: i32) -> Result<(), Fail> {
-    check_eq(between(host, a, selector, b), Some(int(n)))
+// Each row has a, a selector, b, and the integer that is answered.
+fn all_give(host: &mut impl Host, rows: &[(i32, u32, i32, i32)]) -> Result<(), Fail> {
+    for (a, selector, b, n) in rows {
+        check_eq(between(host, *a, *selector, *b), Some(int(*n)))?;
+    }
+    Ok(())
 }
 
-// The answer is true or false.
-fn tells(host: &mut impl Host, a: i32, selector: u32, b: i32, yes: bool) -> Result<(), Fail> {
-    let answer = if yes { Value::True } else { Value::False };
-    check_eq(between(host, a, selector, b), Some(answer))
+// Each row has a, a selector and b; there is no answer, here and below.
+fn all_go_below(host: &mut impl Host, rows: &[(i32, u32, i32)]) -> Result<(), Fail> {
+    for (a, selector, b) in rows {
+        check_eq(between(host, *a, *selector, *b), None)?;
+    }
+    Ok(())
 }
 
-// There is no answer, here and below.
-fn has_none(host: &mut impl Host, a: i32, selector: u32, b: i32) -> Result<(), Fail> {
-    check_eq(between(host, a, selector, b), None)
+// The answers to the six comparisons of a and b, from `<` to `~=`.
+fn compare_as(host: &mut impl Host, a: i32, b: i32, answers: &[bool]) -> Result<(), Fail> {
+    let mut selector: u32 = 2;
+    for yes in answers {
+        let answer = if *yes { Value::True } else { Value::False };
+        check_eq(between(host, a, selector, b), Some(answer))?;
+        selector = selector.wrapping_add(1);
+    }
+    Ok(())
 }
 
 #[test]
 fn quotients_round_down(rt: LibcRuntime) -> Result<(), Fail> {
     let mut host = over_file(rt.alloc())?;
-    gives(&mut host, 7, 13, 2, 3)?;
-    gives(&mut host, -7, 13, 2, -4)?;
-    gives(&mut host, 7, 13, -2, -4)?;
-    gives(&mut host, -7, 13, -2, 3)?;
-    gives(&mut host, -8, 13, 2, -4)
+    let rows = [
+        (7, 13, 2, 3),
+        (-7, 13, 2, -4),
+        (7, 13, -2, -4),
+        (-7, 13, -2, 3),
+        (-8, 13, 2, -4),
+        (GREATEST, 13, -1, -GREATEST),
+    ];
+    all_give(&mut host, &rows)
 }
 
 #[test]
 fn remainders_have_the_sign_of_the_divisor(rt: LibcRuntime) -> Result<(), Fail> {
     let mut host = over_file(rt.alloc())?;
-    gives(&mut host, 7, 10, 2, 1)?;
-    gives(&mut host, -7, 10, 2, 1)?;
-    gives(&mut host, 7, 10, -2, -1)?;
-    gives(&mut host, -7, 10, -2, -1)?;
-    gives(&mut host, -8, 10, 2, 0)
+    let rows = [
+        (7, 10, 2, 1),
+        (-7, 10, 2, 1),
+        (7, 10, -2, -1),
+        (-7, 10, -2, -1),
+        (-8, 10, 2, 0),
+        (LEAST, 10, -1, 0),
+    ];
+    all_give(&mut host, &rows)
 }
 
 #[test]
-fn divisions_at_the_edges(rt: LibcRuntime) -> Result<(), Fail> {
+fn results_inside_the_range(rt: LibcRuntime) -> Result<(), Fail> {
     let mut host = over_file(rt.alloc())?;
-    has_none(&mut host, LEAST, 13, -1)?;
-    gives(&mut host, LEAST, 10, -1, 0)?;
-    gives(&mut host, GREATEST, 13, -1, -GREATEST)?;
-    has_none(&mut host, 5, 13, 0)?;
-    has_none(&mut host, 5, 10, 0)
+    let rows = [
+        (GREATEST - 1, 0, 1, GREATEST),
+        (LEAST + 1, 1, 1, LEAST),
+        (32768, 8, 32767, 1_073_709_056),
+        (32768, 8, -32768, LEAST),
+    ];
+    all_give(&mut host, &rows)
 }
 
 #[test]
-fn products_at_the_edges(rt: LibcRuntime) -> Result<(), Fail> {
+fn results_outside_the_range(rt: LibcRuntime) -> Result<(), Fail> {
     let mut host = over_file(rt.alloc())?;
-    gives(&mut host, 32768, 8, 32767, 1_073_709_056)?;
-    has_none(&mut host, 32768, 8, 32768)?;
-    gives(&mut host, 32768, 8, -32768, LEAST)?;
-    has_none(&mut host, LEAST, 8, LEAST)
+    let rows = [
+        (GREATEST, 0, 1),
+        (LEAST, 0, LEAST),
+        (LEAST, 1, 1),
+        (32768, 8, 32768),
+        (LEAST, 8, LEAST),
+        (LEAST, 13, -1),
+        (5, 13, 0),
+        (5, 10, 0),
+    ];
+    all_go_below(&mut host, &rows)
 }
 
 #[test]
-fn sums_and_differences_at_the_edges(rt: LibcRuntime) -> Result<(), Fail> {
+fn comparisons(rt: LibcRuntime) -> Result<(), Fail> {
     let mut host = over_file(rt.alloc())?;
-    gives(&mut host, GREATEST - 1, 0, 1, GREATEST)?;
-    has_none(&mut host, GREATEST, 0, 1)?;
-    gives(&mut host, LEAST + 1, 1, 1, LEAST)?;
-    has_none(&mut host, LEAST, 1, 1)?;
-    has_none(&mut host, LEAST, 0, LEAST)
-}
-
-#[test]
-fn comparisons_of_equals(rt: LibcRuntime) -> Result<(), Fail> {
-    let mut host = over_file(rt.alloc())?;
-    tells(&mut host, 3, 2, 3, false)?;
-    tells(&mut host, 3, 3, 3, false)?;
-    tells(&mut host, 3, 4, 3, true)?;
-    tells(&mut host, 3, 5, 3, true)?;
-    tells(&mut host, 3, 6, 3, true)?;
-    tells(&mut host, 3, 7, 3, false)
-}
-
-#[test]
-fn comparisons_of_different_signs(rt: LibcRuntime) -> Result<(), Fail> {
-    let mut host = over_file(rt.alloc())?;
-    tells(&mut host, -1, 2, 1, true)?;
-    tells(&mut host, -1, 3, 1, false)?;
-    tells(&mut host, -1, 4, 1, true)?;
-    tells(&mut host, -1, 5, 1, false)?;
-    tells(&mut host, -1, 6, 1, false)?;
-    tells(&mut host, -1, 7, 1, true)
+    compare_as(&mut host, 3, 3, &[false, false, true, true, true, false])?;
+    compare_as(&mut host, -1, 1, &[true, false, true, false, false, true])?;
+    compare_as(&mut host, 9, 8, &[false, true, false, true, false, true])
 }

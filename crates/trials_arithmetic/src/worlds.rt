@@ -38,14 +38,17 @@ pub(crate) const WEEK: [u8; 26] = [
     0,
 ];
 
+// Bytes that are no week file.
+pub(crate) const REFUSED: [u8; 3] = [1, 2, 3];
+
 // The layer over that file.
 pub(crate) fn over_file(heap: Global) -> Result<Arithmetic<WeekFile>, AllocError> {
     Ok(Arithmetic::new(WeekFile::open(WEEK.to_vec(heap)?)))
 }
 
-// The layer over bytes that are no week file.
+// The layer over those bytes.
 pub(crate) fn over_refused(heap: Global) -> Result<Arithmetic<WeekFile>, AllocError> {
-    Ok(Arithmetic::new(WeekFile::open([1, 2, 3].to_vec(heap)?)))
+    Ok(Arithmetic::new(WeekFile::open(REFUSED.to_vec(heap)?)))
 }
 
 // An integer as a value.
