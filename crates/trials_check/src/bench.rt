@@ -1,6 +1,8 @@
 // A week file to check parcels over, and what a check finds.
 use crate::drafts::Draft;
-use crate::drafts::method;
+use crate::drafts::Entry;
+use crate::drafts::FOUR_SLOTS;
+use crate::drafts::parcel_bytes;
 use checker::check;
 use std::alloc::AllocError;
 use std::alloc::Global;
@@ -77,13 +79,18 @@ impl Bench {
         self.judged(cases, true)
     }
 
-    // Codes as untrusted methods with 4 slots.
-    pub fn codes(&self, cases: &[(&[u8], Found)]) -> Result<(), Fail> {
+    // Codes as untrusted methods with 4 slots and these literals.
+    pub fn codes_with(&self, literals: &[Entry], cases: &[(&[u8], Found)]) -> Result<(), Fail> {
         for (k, case) in cases.iter().enumerate() {
             let (code, want) = *case;
-            let bytes = method(code).bytes(self.heap)?;
+            let bytes = parcel_bytes(self.heap, 0, FOUR_SLOTS, literals, code)?;
             check_eq(self.finds(&bytes, false), want).note(format_args!("case {k}"))?;
         }
         Ok(())
+    }
+
+    // The same without literals.
+    pub fn codes(&self, cases: &[(&[u8], Found)]) -> Result<(), Fail> {
+        self.codes_with(&[], cases)
     }
 }

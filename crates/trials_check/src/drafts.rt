@@ -82,19 +82,30 @@ fn two_bytes(n: usize) -> [u8; 2] {
     [(n / 256 % 256) as u8, (n % 256) as u8]
 }
 
+// The bytes of a parcel of a kind, with flags, literals and code.
+pub fn parcel_bytes(
+    heap: Global,
+    kind: u8,
+    flags: u32,
+    literals: &[Entry],
+    code: &[u8],
+) -> Result<Vec<u8>, AllocError> {
+    let mut bytes = Vec::new(heap);
+    bytes.extend_from_slice(&[0, kind])?;
+    bytes.extend_from_slice(&two_bytes(literals.len()))?;
+    bytes.extend_from_slice(&flags.to_be_bytes())?;
+    bytes.extend_from_slice(&two_bytes(code.len()))?;
+    for literal in literals {
+        bytes.extend_from_slice(literal)?;
+    }
+    bytes.extend_from_slice(code)?;
+    Ok(bytes)
+}
+
 impl Draft<'_> {
     // The bytes of the parcel.
     pub fn bytes(self, heap: Global) -> Result<Vec<u8>, AllocError> {
-        let mut bytes = Vec::new(heap);
-        bytes.extend_from_slice(&[0, self.kind])?;
-        bytes.extend_from_slice(&two_bytes(self.literals.len()))?;
-        bytes.extend_from_slice(&self.flags.to_be_bytes())?;
-        bytes.extend_from_slice(&two_bytes(self.code.len()))?;
-        for literal in self.literals {
-            bytes.extend_from_slice(literal)?;
-        }
-        bytes.extend_from_slice(self.code)?;
-        Ok(bytes)
+        parcel_bytes(heap, self.kind, self.flags, self.literals, self.code)
     }
 }
 

@@ -62,81 +62,59 @@ fn frame_cells(rt: LibcRuntime) -> Result<(), Fail> {
 
 #[test]
 fn literal_operands(rt: LibcRuntime) -> Result<(), Fail> {
-    Bench::new(rt.alloc())?.drafts(
+    Bench::new(rt.alloc())?.codes_with(
+        &LITERALS,
         &[
-            (with_literals(&LITERALS, &[46, 0, 51, 0]), Ok(1)),
-            (with_literals(&LITERALS, &[46, 2, 51, 0]), Ok(1)),
-            (with_literals(&LITERALS, &[46, 3, 51, 0]), Err((15, 0))),
-            (with_literals(&LITERALS, &[46, 5, 51, 0]), Err((15, 0))),
-            (with_literals(&LITERALS, &[46, 7, 51, 0]), Err((15, 0))),
-            (with_literals(&LITERALS, &[34, 5, 38, 5, 51, 0]), Ok(1)),
-            (with_literals(&LITERALS, &[34, 6, 51, 0]), Ok(1)),
-            (with_literals(&LITERALS, &[34, 2, 51, 0]), Err((15, 0))),
-            (with_literals(&LITERALS, &[34, 7, 51, 0]), Err((15, 0))),
-            (
-                with_literals(&LITERALS, &[56, 0, 38, 3, 51, 0]),
-                Err((15, 2)),
-            ),
+            (&[46, 0, 51, 0], Ok(1)),
+            (&[46, 2, 51, 0], Ok(1)),
+            (&[46, 3, 51, 0], Err((15, 0))),
+            (&[46, 5, 51, 0], Err((15, 0))),
+            (&[46, 7, 51, 0], Err((15, 0))),
+            (&[34, 5, 38, 5, 51, 0], Ok(1)),
+            (&[34, 6, 51, 0], Ok(1)),
+            (&[34, 2, 51, 0], Err((15, 0))),
+            (&[34, 7, 51, 0], Err((15, 0))),
+            (&[56, 0, 38, 3, 51, 0], Err((15, 2))),
         ],
     )
 }
 
 #[test]
 fn selectors(rt: LibcRuntime) -> Result<(), Fail> {
-    Bench::new(rt.alloc())?.drafts(
+    Bench::new(rt.alloc())?.codes_with(
+        &LITERALS,
         &[
-            (
-                with_literals(&LITERALS, &[56, 0, 55, 3, 28, 0, 51, 0]),
-                Ok(1),
-            ),
-            (
-                with_literals(&LITERALS, &[56, 0, 55, 3, 29, 0, 51, 0]),
-                Ok(1),
-            ),
-            (
-                with_literals(&LITERALS, &[56, 0, 55, 3, 28, 1, 51, 0]),
-                Err((15, 2)),
-            ),
-            (
-                with_literals(&LITERALS, &[56, 0, 55, 2, 28, 0, 51, 0]),
-                Err((15, 2)),
-            ),
-            (
-                with_literals(&LITERALS, &[56, 0, 55, 7, 29, 0, 51, 0]),
-                Err((15, 2)),
-            ),
-            (
-                with_literals(&LITERALS, &[56, 0, 28, 0, 51, 0]),
-                Err((15, 2)),
-            ),
-            (with_literals(&[UNARY], &[56, 0, 28, 0, 51, 0]), Ok(1)),
+            (&[56, 0, 55, 3, 28, 0, 51, 0], Ok(1)),
+            (&[56, 0, 55, 3, 29, 0, 51, 0], Ok(1)),
+            (&[56, 0, 55, 3, 28, 1, 51, 0], Err((15, 2))),
+            (&[56, 0, 55, 2, 28, 0, 51, 0], Err((15, 2))),
+            (&[56, 0, 55, 7, 29, 0, 51, 0], Err((15, 2))),
+            (&[56, 0, 28, 0, 51, 0], Err((15, 2))),
         ],
     )
 }
 
 #[test]
 fn trusted_cells(rt: LibcRuntime) -> Result<(), Fail> {
-    let bench = Bench::new(rt.alloc())?;
-    bench.drafts(
+    Bench::new(rt.alloc())?.codes_with(
+        &LITERALS,
         &[
-            (with_literals(&[], &[56, 0, 39, 2, 51, 0]), Ok(1)),
-            (with_literals(&[], &[56, 0, 39, 3, 51, 0]), Err((17, 2))),
-            (with_literals(&LITERALS, &[56, 0, 38, 5, 51, 0]), Ok(1)),
-            (
-                with_literals(&LITERALS, &[56, 0, 38, 6, 51, 0]),
-                Err((17, 2)),
-            ),
-            (with_literals(&LITERALS, &[35, 3, 34, 6, 51, 0]), Ok(2)),
+            (&[56, 0, 39, 2, 51, 0], Ok(1)),
+            (&[56, 0, 39, 3, 51, 0], Err((17, 2))),
+            (&[56, 0, 38, 5, 51, 0], Ok(1)),
+            (&[56, 0, 38, 6, 51, 0], Err((17, 2))),
+            (&[35, 3, 34, 6, 51, 0], Ok(2)),
         ],
-    )?;
-    bench.trusted(
+    )
+}
+
+#[test]
+fn trusted_parcels(rt: LibcRuntime) -> Result<(), Fail> {
+    Bench::new(rt.alloc())?.trusted(
         &[
             (with_literals(&[], &[56, 0, 39, 3, 51, 0]), Ok(1)),
-            (with_literals(&LITERALS, &[56, 0, 38, 6, 51, 0]), Ok(1)),
-            (
-                with_literals(&LITERALS, &[56, 0, 39, 4, 51, 0]),
-                Err((15, 2)),
-            ),
+            (with_literals(&[BINDING_1], &[56, 0, 38, 0, 51, 0]), Ok(1)),
+            (with_literals(&[], &[56, 0, 39, 4, 51, 0]), Err((15, 2))),
         ],
     )
 }
@@ -197,34 +175,17 @@ fn landings(rt: LibcRuntime) -> Result<(), Fail> {
 // A closure is made of a block that the instruction before pushes, in the code.
 #[test]
 fn closures(rt: LibcRuntime) -> Result<(), Fail> {
-    Bench::new(rt.alloc())?.drafts(
+    Bench::new(rt.alloc())?.codes_with(
+        &LITERALS,
         &[
-            (with_literals(&LITERALS, &[46, 2, 49, 0, 51, 0]), Ok(1)),
-            (
-                with_literals(&LITERALS, &[55, 0, 46, 2, 55, 0, 49, 0, 51, 0]),
-                Ok(1),
-            ),
-            (
-                with_literals(&LITERALS, &[56, 0, 41, 2, 46, 2, 49, 0, 51, 0]),
-                Ok(1),
-            ),
-            (
-                with_literals(&LITERALS, &[46, 1, 49, 0, 51, 0]),
-                Err((20, 2)),
-            ),
-            (
-                with_literals(&LITERALS, &[46, 2, 54, 0, 49, 0, 51, 0]),
-                Err((20, 4)),
-            ),
-            (
-                with_literals(&LITERALS, &[46, 2, 49, 0, 49, 0, 51, 0]),
-                Err((20, 4)),
-            ),
-            (
-                with_literals(&LITERALS, &[56, 0, 49, 0, 51, 0]),
-                Err((20, 2)),
-            ),
-            (with_literals(&LITERALS, &[49, 0, 51, 0]), Err((20, 0))),
+            (&[46, 2, 49, 0, 51, 0], Ok(1)),
+            (&[55, 0, 46, 2, 55, 0, 49, 0, 51, 0], Ok(1)),
+            (&[56, 0, 41, 2, 46, 2, 49, 0, 51, 0], Ok(1)),
+            (&[46, 1, 49, 0, 51, 0], Err((20, 2))),
+            (&[46, 2, 54, 0, 49, 0, 51, 0], Err((20, 4))),
+            (&[46, 2, 49, 0, 49, 0, 51, 0], Err((20, 4))),
+            (&[56, 0, 49, 0, 51, 0], Err((20, 2))),
+            (&[49, 0, 51, 0], Err((20, 0))),
         ],
     )
 }

@@ -192,18 +192,46 @@ fn refused_early(rt: LibcRuntime) -> Result<(), Fail> {
     untouched(&bench, &five_pairs, Err((11, 0)))
 }
 
-// Three pairs over lists with so many entries.
-fn over_lists(bench: &Bench, heights: &mut [u8], waiting: &mut [u16]) -> Result<Found, Fail> {
-    let bytes = method(&[56, 0, 48, 0, 40, 2]).bytes(bench.heap)?;
+// A code over lists of any length.
+fn over_lists(
+    bench: &Bench,
+    code: &[u8],
+    heights: &mut [u8],
+    waiting: &mut [u16],
+) -> Result<Found, Fail> {
+    let bytes = method(code).bytes(bench.heap)?;
     Ok(in_numbers(check(&bench.host, &bytes, false, heights, waiting)))
 }
 
+// Three pairs need three entries in each list.
 #[test]
 fn long_enough(rt: LibcRuntime) -> Result<(), Fail> {
     let bench = Bench::new(rt.alloc())?;
-    check_eq(over_lists(&bench, &mut [7; 2], &mut [9; 3])?, Err((11, 0)))?;
-    check_eq(over_lists(&bench, &mut [7; 3], &mut [9; 2])?, Err((11, 0)))?;
-    check_eq(over_lists(&bench, &mut [], &mut [])?, Err((11, 0)))?;
-    check_eq(over_lists(&bench, &mut [7; 3], &mut [9; 3])?, Ok(1))?;
-    check_eq(over_lists(&bench, &mut [7; 9], &mut [9; 3])?, Ok(1))
+    let code = [56, 0, 48, 0, 40, 2];
+    check_eq(
+        over_lists(&bench, &code, &mut [7; 2], &mut [9; 3])?,
+        Err((11, 0)),
+    )?;
+    check_eq(
+        over_lists(&bench, &code, &mut [7; 3], &mut [9; 2])?,
+        Err((11, 0)),
+    )?;
+    check_eq(over_lists(&bench, &code, &mut [], &mut [])?, Err((11, 0)))?;
+    check_eq(over_lists(&bench, &code, &mut [7; 3], &mut [9; 3])?, Ok(1))?;
+    check_eq(over_lists(&bench, &code, &mut [7; 9], &mut [9; 3])?, Ok(1))
+}
+
+// An odd length is rounded down.
+#[test]
+fn odd_lengths(rt: LibcRuntime) -> Result<(), Fail> {
+    let bench = Bench::new(rt.alloc())?;
+    check_eq(over_lists(&bench, &[56], &mut [], &mut [])?, Err((12, 0)))?;
+    check_eq(
+        over_lists(&bench, &[56, 0, 51], &mut [7; 1], &mut [9; 1])?,
+        Err((12, 2)),
+    )?;
+    check_eq(
+        over_lists(&bench, &[56, 0, 51], &mut [7; 1], &mut [])?,
+        Err((11, 0)),
+    )
 }

@@ -3,7 +3,6 @@ use crate::bench::Bench;
 use crate::drafts::KEYWORD;
 use crate::drafts::repeated;
 use crate::drafts::with_flags;
-use crate::drafts::with_literals;
 use parcels::argument_count;
 use std::test::*;
 
@@ -75,24 +74,13 @@ fn messages(rt: LibcRuntime) -> Result<(), Fail> {
 // Sends by selector need the detail and one more.
 #[test]
 fn selector_heights(rt: LibcRuntime) -> Result<(), Fail> {
-    Bench::new(rt.alloc())?.drafts(
+    Bench::new(rt.alloc())?.codes_with(
+        &[KEYWORD],
         &[
-            (
-                with_literals(&[KEYWORD], &[45, 0, 45, 0, 28, 2, 51, 0]),
-                Err((21, 4)),
-            ),
-            (
-                with_literals(&[KEYWORD], &[45, 0, 45, 0, 45, 0, 28, 2, 51, 0]),
-                Ok(3),
-            ),
-            (
-                with_literals(&[KEYWORD], &[45, 0, 45, 0, 45, 0, 29, 2, 51, 0]),
-                Ok(3),
-            ),
-            (
-                with_literals(&[KEYWORD], &[45, 0, 45, 0, 45, 0, 28, 2, 48, 0, 51, 0]),
-                Err((21, 10)),
-            ),
+            (&[45, 0, 45, 0, 28, 2, 51, 0], Err((21, 4))),
+            (&[45, 0, 45, 0, 45, 0, 28, 2, 51, 0], Ok(3)),
+            (&[45, 0, 45, 0, 45, 0, 29, 2, 51, 0], Ok(3)),
+            (&[45, 0, 45, 0, 45, 0, 28, 2, 48, 0, 51, 0], Err((21, 10))),
         ],
     )
 }

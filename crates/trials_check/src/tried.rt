@@ -2,14 +2,13 @@
 use crate::bench::Bench;
 use crate::bench::Found;
 use crate::drafts::method;
-use crate::drafts::repeated;
 use listing::Verdict;
 use listing::VerdictDisplay;
 use listing::list;
 use std::test::*;
 
 // Every code and what is found of it.
-const CASES: [(&[u8], Found); 13] = [
+const CASES: [(&[u8], Found); 15] = [
     (&[56, 0, 51, 0], Ok(1)),
     (&[40, 2], Ok(0)),
     (&[51, 0], Err((21, 0))),
@@ -23,6 +22,8 @@ const CASES: [(&[u8], Found); 13] = [
     (&[55, 3, 44, 232, 51, 0], Ok(1)),
     (&[56, 0, 43, 4, 44, 255, 51, 0, 44, 0, 51, 0], Ok(1)),
     (&[55, 32, 55, 0, 55, 0, 44, 0, 51, 0], Err((15, 0))),
+    (&[56, 0, 56, 0, 56, 0, 56, 0, 51, 0], Ok(4)),
+    (&[56, 0, 56, 0, 56, 0, 56, 0, 56, 0, 51, 0], Err((22, 8))),
 ];
 
 #[test]
@@ -42,14 +43,6 @@ fn by_the_listing(rt: LibcRuntime) -> Result<(), Fail> {
         check_eq(listed, want).note(format_args!("case {k}"))?;
     }
     Ok(())
-}
-
-#[test]
-fn pushes(rt: LibcRuntime) -> Result<(), Fail> {
-    let bench = Bench::new(rt.alloc())?;
-    let four = repeated(rt.alloc(), 56, 4, &[51, 0])?;
-    let five = repeated(rt.alloc(), 56, 5, &[51, 0])?;
-    bench.codes(&[(&four, Ok(4)), (&five, Err((22, 8)))])
 }
 
 #[test]
