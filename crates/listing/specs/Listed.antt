@@ -39,13 +39,27 @@ verdict-over f n b = verdict (checked (marks-of (week-meaning f)) false b (repli
 abbrev pub listed : List ℕ → Verdict
 listed b = verdict-over week 2048 b
 
--- a method without literals, arguments or locals, with 4 slots
-abbrev pub method : List ℕ → List ℕ
-method code = (0 ∷ 0 ∷ 0 ∷ 0 ∷ 0 ∷ 0 ∷ 0 ∷ 32 ∷ length code / 256 ∷ length code % 256 ∷ []) ++ code
+-- a method without literals, with the flag bytes f
+abbrev pub method : List ℕ → List ℕ → List ℕ
+method f code = (0 ∷ 0 ∷ 0 ∷ 0 ∷ []) ++ (f ++ ((length code / 256 ∷ length code % 256 ∷ []) ++ code))
 
 -- a code as such a method, with as many entries as it needs
+abbrev pub found-with : List ℕ → List ℕ → Verdict
+found-with f code = verdict-over week (length code / 2) (method f code)
+
+-- a code without arguments or locals, with 4 slots
 abbrev pub found : List ℕ → Verdict
-found code = verdict-over week (length code / 2) (method code)
+found code = found-with (0 ∷ 0 ∷ 0 ∷ 32 ∷ []) code
+
+-- forty turns of a loop, counted in a local, with its head at place 6: each turn pushes a figure and then does opcode d
+abbrev pub forty-turns : ℕ → List ℕ
+forty-turns d =
+    44 ∷ 40 ∷ 36 ∷ 0 ∷ 48 ∷ 0 ∷ 44 ∷ 1 ∷ d ∷ 0 ∷ 32 ∷ 0 ∷ 44 ∷ 1 ∷ 1 ∷ 0
+    ∷ 36 ∷ 0 ∷ 44 ∷ 0 ∷ 3 ∷ 0 ∷ 43 ∷ 2 ∷ 40 ∷ 20 ∷ 45 ∷ 0 ∷ 51 ∷ 0 ∷ []
+
+-- a code with one local and 8 slots
+abbrev pub found-counting : List ℕ → Verdict
+found-counting code = found-with (0 ∷ 0 ∷ 8 ∷ 64 ∷ []) code
 
 -- the parcels tried: their verdicts by computation
 abbrev pub Tried : Type 0
@@ -60,3 +74,5 @@ Tried =
     × (found (56 ∷ 0 ∷ 39 ∷ 2 ∷ 51 ∷ 0 ∷ []) ≡ Accepted 1)
     × (found (56 ∷ 0 ∷ 39 ∷ 3 ∷ 51 ∷ 0 ∷ []) ≡ Refused (fault StoreTrusted 2))
     × (found (55 ∷ 3 ∷ 44 ∷ 232 ∷ 51 ∷ 0 ∷ []) ≡ Accepted 1)
+    × (found-counting (forty-turns 48) ≡ Accepted 2)
+    × (found-counting (forty-turns 54) ≡ Refused (fault HeightsDiffer 6))

@@ -7,5 +7,5 @@ use Rattle.listing.proofs.listed.list.Needs as need
 pub returns : need.returns
 returns c = record {
   answer = c .verdict-over .ensures ∙ ap (λ (f : List ℕ). verdict-over f 2048 (c .args .parcel .now)) (c .in-Continue-host .ensures tt);
-  tried = (refl, refl, refl, refl, refl, refl, refl, refl, refl, refl);
+  tried = (refl, refl, refl, refl, refl, refl, refl, refl, refl, refl, refl, refl);
 }
