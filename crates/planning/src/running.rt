@@ -7,7 +7,10 @@ ghost use Rattle.std.specs.Of.Vec.{vec-items};
 ghost use Rattle.hosts.specs.Meaning.{marks-of};
 ghost use Rattle.stages.specs.Check.{checked};
 ghost use Rattle.listing.specs.Listed.{verdict};
+ghost use Rattle.engine.specs.View.{view};
+ghost use mathlib.Core.Bool.{false};
 ghost use Rattle.planning.specs.Frames.{cells-in, frame-of};
+ghost use Rattle.planning.specs.Keeping.{Keeps-trusted, Leads-on};
 ghost use Rattle.parcels.specs.Parts.{parts-of};
 use crate::options::Plan;
 use crate::texts::Outcome;
@@ -78,7 +81,9 @@ fn follow<H: Host>(
     run: &mut Run,
     host: &mut H,
     frame: &mut [Value],
-) -> io::Result<Outcome> {
+) -> io::Result<Outcome>
+    ensures { λ _. ⌜ Leads-on means may (now (host .entry)) (view (now (run .entry))) (now (host .exit)) (view (now (run .exit))) ⌝ }
+{
     let mut steps = 0;
     for k in 0..plan.steps {
         if let State::Live = run.state() {
@@ -105,7 +110,9 @@ fn play<H: Host>(
     host: &mut H,
     bytes: &[u8],
     frame: &mut [Value],
-) -> io::Result<Outcome> {
+) -> io::Result<Outcome>
+    ensures { λ _. ⌜ (now (plan .entry) .trusted ≡ false → Keeps-trusted (means (now (host .entry))) (means (now (host .exit)))) ⌝ }
+{
     let mut heights = [0u8; 2048];
     let mut waiting = [0u16; 2048];
     let mut run = Run::empty();
@@ -130,7 +137,9 @@ pub fn run_parcel<H: Host>(
     host: &mut H,
     path: &str,
     bytes: &[u8],
-) -> io::Result<()> {
+) -> io::Result<()>
+    ensures { λ _. ⌜ (now (plan .entry) .trusted ≡ false → Keeps-trusted (means (now (host .entry))) (means (now (host .exit)))) ⌝ }
+{
     let verdict = verdict_of(host, bytes, plan.trusted);
     println!(rt, "parcel {path}: {verdict}")?;
     if let Verdict::Accepted(_) = verdict {
