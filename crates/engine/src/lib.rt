@@ -3,6 +3,7 @@ mod frames;
 mod opening;
 mod performing;
 mod runs;
+mod seeing;
 mod stepping;
 mod turns;
 

@@ -1,0 +1,4 @@
+pub mod Frames
+pub mod Keeping
+pub mod Rows
+pub mod Texts

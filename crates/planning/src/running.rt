@@ -1,0 +1,151 @@
+// One parcel on a host: the check, the opening, and steps up to a budget.
+ghost use mathlib.Core.Path.{_≡_};
+ghost use denote.Ref.{now};
+ghost use lib.ListN.{replicate};
+ghost use Rattle.std.specs.Vec.{made};
+ghost use Rattle.std.specs.Of.Vec.{vec-items};
+ghost use Rattle.hosts.specs.Meaning.{marks-of};
+ghost use Rattle.stages.specs.Check.{checked};
+ghost use Rattle.listing.specs.Listed.{verdict};
+ghost use Rattle.engine.specs.View.{view};
+ghost use mathlib.Core.Bool.{false};
+ghost use Rattle.planning.specs.Frames.{cells-in, frame-of};
+ghost use Rattle.planning.specs.Keeping.{Keeps-trusted, Leads-on};
+ghost use Rattle.parcels.specs.Parts.{parts-of};
+use crate::options::Plan;
+use crate::texts::Outcome;
+use crate::texts::OutcomeDisplay;
+use crate::texts::StepText;
+use crate::texts::StepTextDisplay;
+use checker::check;
+use engine::Run;
+use hosts::Host;
+use listing::Verdict;
+use listing::VerdictDisplay;
+use parcels::Parcel;
+use scripts::State;
+use std::alloc::AllocError;
+use std::alloc::Global;
+use std::io;
+use values::Value;
+
+// What a check finds.
+pub fn verdict_of<H: Host>(host: &H, bytes: &[u8], trusted: bool) -> Verdict
+    ensures { λ r. ⌜ r ≡ verdict (checked (marks-of (means (now (host .entry)))) trusted (now (bytes .entry)) (replicate 2048 0) (replicate 2048 0) .verdict) ⌝ }
+{
+    let mut heights = [0u8; 2048];
+    let mut waiting = [0u16; 2048];
+    match check(host, bytes, trusted, &mut heights, &mut waiting) {
+        Ok(height) => Verdict::Accepted(height),
+        Err(fault) => Verdict::Refused(fault),
+    }
+}
+
+// How many cells a parcel's frame has.
+fn frame_cells(bytes: &[u8]) -> usize
+    ensures { λ r. ⌜ r ≡ cells-in (parts-of (now (bytes .entry))) ⌝ }
+{
+    match Parcel::read(bytes) {
+        Ok(parcel) => parcel.layout.arguments as usize + parcel.layout.slots as usize,
+        Err(_) => 0,
+    }
+}
+
+// The frame of a parcel, before it is opened.
+pub fn frame_for(heap: Global, bytes: &[u8]) -> Result<Vec<Value>, AllocError>
+    ensures { λ r. ⌜ made r (λ v. vec-items v ≡ frame-of (now (bytes .entry))) ⌝ }
+{
+    vec![in heap; Value::Nil; frame_cells(bytes)]
+}
+
+// Prints what the next step meets, if it is to be printed.
+fn announce(rt: &impl Print, trace: bool, number: u64, run: &Run) -> io::Result<()> {
+    if trace {
+        if let Some(opcode) = run.opcode() {
+            let step = StepText {
+                number,
+                place: run.place(),
+                height: run.height(),
+                opcode,
+            };
+            println!(rt, "{step}")?;
+        }
+    }
+    Ok(())
+}
+
+// Steps a run until it is live no more or the budget is spent.
+fn follow<H: Host>(
+    rt: &impl Print,
+    plan: &Plan,
+    run: &mut Run,
+    host: &mut H,
+    frame: &mut [Value],
+) -> io::Result<Outcome>
+    ensures { λ _. ⌜ Leads-on means may (now (host .entry)) (view (now (run .entry))) (now (host .exit)) (view (now (run .exit))) ⌝ }
+{
+    let mut steps = 0;
+    for k in 0..plan.steps {
+        if let State::Live = run.state() {
+            announce(rt, plan.trace, k + 1, run)?;
+            if let Err(fault) = run.step(host, frame) {
+                return Ok(Outcome::Refused(fault));
+            }
+            steps = k + 1;
+        } else {
+            break;
+        }
+    }
+    Ok(Outcome::Ran {
+        state: run.state(),
+        place: run.place(),
+        steps,
+    })
+}
+
+// Opens a parcel and steps it.
+fn play<H: Host>(
+    rt: &impl Print,
+    plan: &Plan,
+    host: &mut H,
+    bytes: &[u8],
+    frame: &mut [Value],
+) -> io::Result<Outcome>
+    ensures { λ _. ⌜ (now (plan .entry) .trusted ≡ false → Keeps-trusted (means (now (host .entry))) (means (now (host .exit)))) ⌝ }
+{
+    let mut heights = [0u8; 2048];
+    let mut waiting = [0u16; 2048];
+    let mut run = Run::empty();
+    match run.open(
+        host,
+        bytes,
+        plan.trusted,
+        &plan.arguments,
+        frame,
+        &mut heights,
+        &mut waiting,
+    ) {
+        Ok(_) => follow(rt, plan, &mut run, host, frame),
+        Err(fault) => Ok(Outcome::Refused(fault)),
+    }
+}
+
+// Checks a parcel on a host, and opens and steps it where it is accepted. The lines of both are printed under its path.
+pub fn run_parcel<H: Host>(
+    rt: &(impl Print + Alloc<A = Global>),
+    plan: &Plan,
+    host: &mut H,
+    path: &str,
+    bytes: &[u8],
+) -> io::Result<()>
+    ensures { λ _. ⌜ (now (plan .entry) .trusted ≡ false → Keeps-trusted (means (now (host .entry))) (means (now (host .exit)))) ⌝ }
+{
+    let verdict = verdict_of(host, bytes, plan.trusted);
+    println!(rt, "parcel {path}: {verdict}")?;
+    if let Verdict::Accepted(_) = verdict {
+        let mut frame = frame_for(rt.alloc(), bytes)?;
+        let outcome = play(rt, plan, host, bytes, &mut frame)?;
+        println!(rt, "parcel {path}: {outcome}")?;
+    }
+    Ok(())
+}
