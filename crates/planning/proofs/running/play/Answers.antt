@@ -9,5 +9,5 @@ returns-in-Ok g c =
     let s = c .args .host .now in
     kept (g .H·Host .means) (g .H·Host .may) (g .H·Host·met .kept) t s (c .follow .last .host) (view (c .follow .last .run))
     (c .follow .ensures t s
-      (begun (g .H·Host .means) (g .H·Host .may) t s (c .args .bytes .now) (c .deref .result .now) (c .args .frame .now) (replicate 2048 0) (replicate 2048 0)
-        (view (c .empty-run .result)) (view (c .open .last .self)) (c .empty-run .ensures) (c .open .ensures .run)))
+    (begun (g .H·Host .means) (g .H·Host .may) t s (c .args .bytes .now) (c .deref .result .now) (c .args .frame .now) (replicate 2048 0) (replicate 2048 0)
+    (view (c .empty-run .result)) (view (c .open .last .self)) (c .empty-run .ensures) (c .open .ensures .run)))
