@@ -12,6 +12,7 @@ ghost use Rattle.histories.specs.Opening.{open-tests, opened, begun, laid, empt
 ghost use Rattle.histories.specs.Histories.{Carries-on, Carries-off};
 ghost use lib.ListN.{length};
 ghost use Rattle.histories.specs.Ready.{Ready};
+ghost use Rattle.histories.specs.Tried.{Tried-runs};
 ghost use Rattle.engine.specs.Turns.{if-none};
 ghost use Rattle.engine.specs.View.{view};
 use crate::frames::lay_out;
@@ -30,7 +31,8 @@ use values::Value;
 impl<'a> Run<'a> {
     // A run that is ended by return with nil, at place 0.
     pub fn empty() -> Run<'a>
-        ensures { λ r. ⌜ view r ≡ empty ⌝ }
+        ensures run { λ r. ⌜ view r ≡ empty ⌝ }
+        ensures tried { λ _. ⌜ Tried-runs ⌝ }
     {
         let layout = Layout {
             kind: CodeKind::Method,

@@ -2,3 +2,4 @@ pub mod Operations
 pub mod Bounds
 pub mod Readiness
 pub mod Safety
+pub mod Tries

@@ -1,3 +1,4 @@
 pub mod Opening
 pub mod Ready
 pub mod Histories
+pub mod Tried
