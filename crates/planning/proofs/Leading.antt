@@ -106,7 +106,7 @@ module _ {S : Type 0} (means : S → Meaning) (may : S → Sent → Value → S 
     long =
         subst⁻¹ (λ n. cells-of (run′ .parts) ≤ n) same
         (subst⁻¹ (λ (r : Running). cells-of (r .parts) ≤ length f) e′
-          (long-enough (parcel b) (means s) args f run top (checked (marks-of (means s)) t b hs ws .verdict) (sym answer ∙ ok)));
+        (long-enough (parcel b) (means s) args f run top (checked (marks-of (means s)) t b hs ws .verdict) (sym answer ∙ ok)));
   }
 
   -- what an opening began and a follower went on with
@@ -115,7 +115,7 @@ module _ {S : Type 0} (means : S → Meaning) (may : S → Sent → Value → S 
   played o o′ budget s s′ run run′ f f′ out a top e answer ok e-run e-frame x =
       subst (λ (z : Opened). Played means may z budget s out s′ f′) e
       (subst (λ (y : Result ℕ Fault). Played-by means may y o budget s out s′ f′) (sym ok ∙ answer)
-        (run′, subst (λ (r : Running). Followed means may budget s r (o .frame) out s′ run′ f′) e-run (subst (λ (g : List Value). Followed means may budget s run g out s′ run′ f′) e-frame x)))
+      (run′, subst (λ (r : Running). Followed means may budget s r (o .frame) out s′ run′ f′) e-run (subst (λ (g : List Value). Followed means may budget s run g out s′ run′ f′) e-frame x)))
 
 -- an answer of which more is known
 pub made-so : {X E : Type 0} (P Q : X → Type 0) (r : Result X E) → ((x : X) → P x → Q x) → made r P → made r Q

@@ -13,6 +13,7 @@ ghost use Rattle.planning.specs.Frames.{cells-in, frame-of};
 ghost use Rattle.planning.specs.Keeping.{Keeps-trusted, Going, Leads-on, Followed, Played};
 ghost use Rattle.planning.specs.declared.texts.Outcome.the-variants.{Ran};
 ghost use Rattle.histories.specs.Opening.{opened, empty};
+ghost use Rattle.planning.specs.Meeting.{next-text};
 ghost use Rattle.parcels.specs.Parts.{parts-of};
 use crate::options::Plan;
 use crate::texts::Outcome;
@@ -60,16 +61,25 @@ pub fn frame_for(heap: Global, bytes: &[u8]) -> Result<Vec<Value>, AllocError>
     vec![in heap; Value::Nil; frame_cells(bytes)]
 }
 
+// What the next step of a run meets.
+fn step_text(number: u64, run: &Run) -> Option<StepText>
+    ensures { λ r. ⌜ r ≡ next-text number (view (now (run .entry))) ⌝ }
+{
+    match run.opcode() {
+        Some(opcode) => Some(StepText {
+            number,
+            place: run.place(),
+            height: run.height(),
+            opcode,
+        }),
+        None => None,
+    }
+}
+
 // Prints what the next step meets, if it is to be printed.
 fn announce(rt: &impl Print, trace: bool, number: u64, run: &Run) -> io::Result<()> {
     if trace {
-        if let Some(opcode) = run.opcode() {
-            let step = StepText {
-                number,
-                place: run.place(),
-                height: run.height(),
-                opcode,
-            };
+        if let Some(step) = step_text(number, run) {
             println!(rt, "{step}")?;
         }
     }

@@ -13,7 +13,7 @@ pub unreachable-requires : need.unreachable-requires
 unreachable-requires g c κs =
     no-err (sym (c .in-Err .is)
     ∙ unrefused (g .H·Host .means) (g .H·Host .may) (g .H·Host·met .kept) (view (c .loop-k .run)) (view (c .step .last .self)) (c .loop-k .host) (c .step .last .host)
-      (c .loop-k .frame) (c .step .last .frame) (c .step .result) (c .loop-k .inv .1) (sym (c .state .ensures) ∙ c .in-Live .is) (c .step .ensures .steps))
+    (c .loop-k .frame) (c .step .last .frame) (c .step .result) (c .loop-k .inv .1) (sym (c .state .ensures) ∙ c .in-Live .is) (c .step .ensures .steps))
 
 pub loop-k-again : need.loop-k-again
 loop-k-again g c =
@@ -23,8 +23,9 @@ loop-k-again g c =
     let s′ = c .step .last .host in
     let f = c .loop-k .frame in
     let f′ = c .step .last .frame in
-    let st = c .step .ensures .steps in
-    ((λ t s₀ led. stepped (g .H·Host .means) (g .H·Host .may) run run′ s s′ f f′ (c .step .result) st t s₀ (c .loop-k .inv .0 t s₀ led)),
-    goes-further (g .H·Host .means) (g .H·Host .may) run run′ s s′ f f′ (c .step .result) (c .step .kept .frame) (c .loop-k .inv .1) st,
-    more (c .loop-k .inv .2) (sym (c .state .ensures) ∙ c .in-Live .is)
-      (subst (λ (a : Answer). Steps (g .H·Host .means) (g .H·Host .may) run s f a run′ s′ f′) (c .in-Ok .is) st))
+    let st = c .step .ensures .steps in (
+      (λ t s₀ led. stepped (g .H·Host .means) (g .H·Host .may) run run′ s s′ f f′ (c .step .result) st t s₀ (c .loop-k .inv .0 t s₀ led)),
+      goes-further (g .H·Host .means) (g .H·Host .may) run run′ s s′ f f′ (c .step .result) (c .step .kept .frame) (c .loop-k .inv .1) st,
+      more (c .loop-k .inv .2) (sym (c .state .ensures) ∙ c .in-Live .is)
+          (subst (λ (a : Answer). Steps (g .H·Host .means) (g .H·Host .may) run s f a run′ s′ f′) (c .in-Ok .is) st),
+    )

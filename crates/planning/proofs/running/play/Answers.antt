@@ -33,12 +33,12 @@ returns-in-Ok g c =
     record {
       kept = kept means may (g .H·Host·met .kept) t s (c .follow .last .host) (view (c .follow .last .run))
           (c .follow .ensures .leads t s
-            (begun means may t s b (c .deref .result .now) f (replicate 2048 0) (replicate 2048 0) run (view (c .open .last .self)) (c .empty-run .ensures) (c .open .ensures .run)));
+          (begun means may t s b (c .deref .result .now) f (replicate 2048 0) (replicate 2048 0) run (view (c .open .last .self)) (c .empty-run .ensures) (c .open .ensures .run)));
       outcome = made-so
           (λ (out : Outcome). Followed means may (c .args .plan .now .steps) s (view (c .open .last .self)) (c .open .last .frame) out (c .follow .last .host) (view (c .follow .last .run)) (c .follow .last .frame))
           (λ (out : Outcome). Played means may o′ (c .args .plan .now .steps) s out (c .follow .last .host) (c .follow .last .frame))
           (c .follow .result)
           (λ out x. played means may o o′ (c .args .plan .now .steps) s (c .follow .last .host) (view (c .open .last .self)) (view (c .follow .last .run)) (c .open .last .frame) (c .follow .last .frame) out
-            (c .open .result) (c .in-Ok .field-0) same (c .open .ensures .answer) (c .in-Ok .is) (c .open .ensures .run) (c .open .ensures .frame) x)
+          (c .open .result) (c .in-Ok .field-0) same (c .open .ensures .answer) (c .in-Ok .is) (c .open .ensures .run) (c .open .ensures .frame) x)
           (c .follow .ensures .outcome);
     }
