@@ -1,6 +1,8 @@
 // The words of the command line.
 ghost use mathlib.Core.Path.{_≡_};
-ghost use Rattle.values.specs.declared.kinds.Value.{Value};
+ghost use Rattle.values.specs.declared.kinds.Value.the-variants.{Integer};
+ghost use Rattle.values.specs.declared.small.SmallInteger.{SmallInteger};
+ghost use Rattle.planning.specs.Words.{dashed, Is, argument-of};
 use std::alloc::Global;
 use std::error::AnyError;
 use values::SmallInteger;
@@ -45,16 +47,26 @@ enum Awaited {
     Argument,
 }
 
+// Whether a text begins with two dashes.
+fn begins_dashed(word: &str) -> bool
+    ensures { λ r. ⌜ r ≡ dashed (now (word .entry)) ⌝ }
+{
+    let bytes = word.as_bytes();
+    bytes.len() >= 2 && bytes[0] == b'-' && bytes[1] == b'-'
+}
+
 impl Word {
     // A word that begins with `--` is an option, and every other one a path.
-    fn of(word: &str) -> Word {
+    fn of(word: &str) -> Word
+        ensures { λ r. ⌜ Is (now (word .entry)) r ⌝ }
+    {
         match word {
             "--trace" => Word::Trace,
             "--trusted" => Word::Trusted,
             "--steps" => Word::Steps,
             "--argument" => Word::Argument,
             _ => {
-                if word.starts_with("--") {
+                if begins_dashed(word) {
                     Word::Unknown
                 } else {
                     Word::Path
@@ -65,7 +77,9 @@ impl Word {
 }
 
 // The low 31 bits of a number, as a small integer.
-pub fn argument_value(n: i64) -> Value {
+pub fn argument_value(n: i64) -> Value
+    ensures { λ r. ⌜ ((s : SmallInteger) × (r ≡ Integer s) × (s .value ≡ argument-of n)) ⌝ }
+{
     let low = (n.cast_unsigned() % 0x1_0000_0000) as u32;
     Value::Integer(SmallInteger::new(low.cast_signed()))
 }

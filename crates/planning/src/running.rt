@@ -10,7 +10,10 @@ ghost use Rattle.listing.specs.Listed.{verdict};
 ghost use Rattle.engine.specs.View.{view};
 ghost use mathlib.Core.Bool.{false};
 ghost use Rattle.planning.specs.Frames.{cells-in, frame-of};
-ghost use Rattle.planning.specs.Keeping.{Keeps-trusted, Leads-on};
+ghost use Rattle.planning.specs.Keeping.{Keeps-trusted, Going, Leads-on, Followed, Played};
+ghost use Rattle.planning.specs.declared.texts.Outcome.the-variants.{Ran};
+ghost use Rattle.histories.specs.Opening.{opened, empty};
+ghost use Rattle.planning.specs.Meeting.{next-text};
 ghost use Rattle.parcels.specs.Parts.{parts-of};
 use crate::options::Plan;
 use crate::texts::Outcome;
@@ -58,23 +61,43 @@ pub fn frame_for(heap: Global, bytes: &[u8]) -> Result<Vec<Value>, AllocError>
     vec![in heap; Value::Nil; frame_cells(bytes)]
 }
 
+// What the next step of a run meets.
+fn step_text(number: u64, run: &Run) -> Option<StepText>
+    ensures { λ r. ⌜ r ≡ next-text number (view (now (run .entry))) ⌝ }
+{
+    match run.opcode() {
+        Some(opcode) => Some(StepText {
+            number,
+            place: run.place(),
+            height: run.height(),
+            opcode,
+        }),
+        None => None,
+    }
+}
+
 // Prints what the next step meets, if it is to be printed.
 fn announce(rt: &impl Print, trace: bool, number: u64, run: &Run) -> io::Result<()> {
     if trace {
-        if let Some(opcode) = run.opcode() {
-            let step = StepText {
-                number,
-                place: run.place(),
-                height: run.height(),
-                opcode,
-            };
+        if let Some(step) = step_text(number, run) {
             println!(rt, "{step}")?;
         }
     }
     Ok(())
 }
 
-// Steps a run until it is live no more or the budget is spent.
+// Where a run is after so many steps.
+fn outcome_after(run: &Run, steps: u64) -> Outcome
+    ensures { λ r. ⌜ r ≡ Ran (view (now (run .entry)) .state) (view (now (run .entry)) .place) steps ⌝ }
+{
+    Outcome::Ran {
+        state: run.state(),
+        place: run.place(),
+        steps,
+    }
+}
+
+// Steps a run until it is live no more or the budget is spent. No step is refused.
 fn follow<H: Host>(
     rt: &impl Print,
     plan: &Plan,
@@ -82,25 +105,22 @@ fn follow<H: Host>(
     host: &mut H,
     frame: &mut [Value],
 ) -> io::Result<Outcome>
-    ensures { λ _. ⌜ Leads-on means may (now (host .entry)) (view (now (run .entry))) (now (host .exit)) (view (now (run .exit))) ⌝ }
+    requires { ⌜ Going means may (now host) (view (now run)) (now frame) ⌝ }
+    ensures leads { λ _. ⌜ Leads-on means may (now (host .entry)) (view (now (run .entry))) (now (host .exit)) (view (now (run .exit))) ⌝ }
+    ensures outcome { λ r. ⌜ made r (λ o. Followed means may (now (plan .entry) .steps) (now (host .entry)) (view (now (run .entry))) (now (frame .entry)) o (now (host .exit)) (view (now (run .exit))) (now (frame .exit))) ⌝ }
 {
-    let mut steps = 0;
     for k in 0..plan.steps {
-        if let State::Live = run.state() {
-            announce(rt, plan.trace, k + 1, run)?;
-            if let Err(fault) = run.step(host, frame) {
-                return Ok(Outcome::Refused(fault));
-            }
-            steps = k + 1;
-        } else {
-            break;
+        match run.state() {
+            State::Live => {}
+            _ => return Ok(outcome_after(run, k)),
+        }
+        announce(rt, plan.trace, k + 1, run)?;
+        match run.step(host, frame) {
+            Ok(()) => {}
+            Err(_) => unreachable(),
         }
     }
-    Ok(Outcome::Ran {
-        state: run.state(),
-        place: run.place(),
-        steps,
-    })
+    Ok(outcome_after(run, plan.steps))
 }
 
 // Opens a parcel and steps it.
@@ -111,7 +131,8 @@ fn play<H: Host>(
     bytes: &[u8],
     frame: &mut [Value],
 ) -> io::Result<Outcome>
-    ensures { λ _. ⌜ (now (plan .entry) .trusted ≡ false → Keeps-trusted (means (now (host .entry))) (means (now (host .exit)))) ⌝ }
+    ensures kept { λ _. ⌜ (now (plan .entry) .trusted ≡ false → Keeps-trusted (means (now (host .entry))) (means (now (host .exit)))) ⌝ }
+    ensures outcome { λ r. ⌜ made r (λ o. Played means may (opened (means (now (host .entry))) (now (plan .entry) .trusted) (now (bytes .entry)) (vec-items (now (plan .entry) .arguments)) (now (frame .entry)) (replicate 2048 0) (replicate 2048 0) empty) (now (plan .entry) .steps) (now (host .entry)) o (now (host .exit)) (now (frame .exit))) ⌝ }
 {
     let mut heights = [0u8; 2048];
     let mut waiting = [0u16; 2048];
