@@ -8,6 +8,7 @@ ghost use Rattle.scripts.specs.declared.states.State.the-variants.{Live};
 ghost use Rattle.values.specs.Order.{first};
 ghost use Rattle.engine.specs.Turns.{outcome-of, Next-turn, Led, Long, Performed, count-tests};
 ghost use Rattle.scripts.specs.Scripts.{goes};
+ghost use Rattle.scripts.specs.Sparing.{Script-laws};
 ghost use Rattle.scripts.specs.Running.{is-live, moved, Steps};
 ghost use mathlib.Core.Bool.{cond};
 ghost use Rattle.std.specs.Options.{Cases as BySome};
@@ -225,6 +226,7 @@ impl Run<'_> {
         ensures steps { λ r. ⌜ Steps means may (view (now (self .entry))) (now (host .entry)) (now (frame .entry)) r (view (now (self .exit))) (now (host .exit)) (now (frame .exit)) ⌝ }
         ensures on { λ _. ⌜ Carries-on means may (now (host .entry)) (view (now (self .entry))) (now (host .exit)) (view (now (self .exit))) ⌝ }
         ensures safe { λ _. ⌜ Every-history-is-safe means may ⌝ }
+        ensures laws { λ _. ⌜ Script-laws means may ⌝ }
     {
         self.step_once(host, frame)
     }

@@ -3,3 +3,4 @@ pub mod Bounds
 pub mod Readiness
 pub mod Safety
 pub mod Tries
+pub mod Lawful

@@ -1,3 +1,4 @@
 pub mod Scripts
 pub mod Running
 pub mod Laws
+pub mod Sparing
