@@ -9,7 +9,7 @@ ghost use Rattle.stages.specs.Check.{checked};
 ghost use Rattle.paths.specs.Verdicts.{parcel};
 ghost use Rattle.scripts.specs.Running.{value-in};
 ghost use Rattle.histories.specs.Opening.{open-tests, opened, begun, laid, empty};
-ghost use Rattle.histories.specs.Histories.{Carries-on, Carries-off};
+ghost use Rattle.histories.specs.Histories.{Carries-on};
 ghost use lib.ListN.{length};
 ghost use Rattle.histories.specs.Ready.{Ready};
 ghost use Rattle.histories.specs.Tried.{Tried-runs};
