@@ -48,7 +48,8 @@ examine-again c =
     let d = c .demand-at-demand .result in
     let a = height-after d (getD (c .examine .heights) (c .in-Some .newest / 2) 0) in
     let t = taken (need.at·examine-again c .In-Some) in
-    let q = visiting t d (c .demand-at-demand .ensures) a (c .if-h-demand .left) refl (c .if-after-limit .left) in
+    let l : a ≤ c .args .limit = omega (arith, c .if-after-limit .left) in
+    let q = visiting t d (c .demand-at-demand .ensures) a (c .if-h-demand .left) refl l in
     (again t a (d .to) q (c .loop-to .inv .0) (omega arith), search needs)
 
 pub returns-in-rest : need.returns-in-rest
