@@ -1,4 +1,6 @@
 // Runs of accepted parcels on any host.
+#![tactic(auto)]
+
 mod frames;
 mod opening;
 mod performing;

@@ -1,4 +1,6 @@
 // What the checker and a running method ask of the world around them.
+#![tactic(auto)]
+
 mod interface;
 mod messages;
 

@@ -1,4 +1,6 @@
 // The check of one parcel over a fixed week file, and its line.
+#![tactic(auto)]
+
 mod listed;
 mod verdicts;
 

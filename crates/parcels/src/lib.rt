@@ -1,4 +1,6 @@
 // A parcel: its header and flags, its literals, its instructions, and what an opcode asks.
+#![tactic(auto)]
+
 mod layout;
 mod literals;
 mod opcodes;

@@ -1,4 +1,6 @@
 // Runs parcels over a week file with arithmetic, and prints what comes of each.
+#![tactic(auto)]
+
 use planning::run;
 use std::env;
 

@@ -1,4 +1,6 @@
 // Parcels run in turn over a week file with arithmetic, and every line that is printed of it.
+#![tactic(auto)]
+
 mod cells;
 mod options;
 mod program;

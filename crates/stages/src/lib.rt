@@ -1,4 +1,6 @@
 // The stages of a check: every rule in the fixed order, and the heights of the places.
+#![tactic(auto)]
+
 mod checking;
 mod encoding;
 mod heights;

@@ -1,4 +1,6 @@
 // Trials of the arithmetic layer over week files.
+#![tactic(auto)]
+
 #[cfg(test)]
 mod numbers;
 #[cfg(test)]

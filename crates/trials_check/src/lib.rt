@@ -1,4 +1,6 @@
 // Tests of the check and of the listing, on examples.
+#![tactic(auto)]
+
 #[cfg(test)]
 mod bench;
 #[cfg(test)]

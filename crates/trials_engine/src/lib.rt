@@ -1,4 +1,6 @@
 // Trials of runs over a week file with arithmetic.
+#![tactic(auto)]
+
 #[cfg(test)]
 mod classes;
 #[cfg(test)]

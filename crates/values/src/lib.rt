@@ -1,4 +1,6 @@
 // Values, faults and the bounded stack: what every other crate speaks of.
+#![tactic(auto)]
+
 mod faults;
 mod kinds;
 mod small;

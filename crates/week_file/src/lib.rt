@@ -1,4 +1,6 @@
 // A host over the bytes of a week file.
+#![tactic(auto)]
+
 mod cells;
 mod file;
 mod headers;
