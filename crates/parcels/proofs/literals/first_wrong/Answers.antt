@@ -9,4 +9,4 @@ returns-in-Some c =
 
 pub loop-k-preserved : goal.loop-k-preserved
 loop-k-preserved c =
-    on (wrong c.args.literals.now c.args.bindings) c.loop-k.k c.args.count c.loop-k-test.true c.in-default.ensures ∙ c.loop-k.invariant
+    on (wrong c.args.literals.now c.args.bindings) c.loop-k.k c.args.count c.loop-k-test.true c.in_default.ensures ∙ c.loop-k.invariant
