@@ -19,12 +19,12 @@ pub returns-else-b-gt0 : goal.returns-else-b-gt0
 returns-else-b-gt0 c =
     let a = c.args.a in
     let b = c.args.b in
-    let r = c.rem-euclid-else-b-gt0.result in
+    let r = c.rem_euclid-else-b-gt0.result in
     let ea = minus_is a (size a c.requires.dividend) in
     let eb = minus_is b (size b c.requires.divisor) in
     let t : lt_z (pos 0) b ≡ false = ap (lt_z (pos 0)) (sym (to_z-of_z w64 b c.ranges.b)) ∙ c.if-b-gt0.false in
     let less : nat_abs r ≤ 2147483648 =
-    omega (arith, ints, c.rem-euclid-else-b-gt0.ensures.upper-bound, ap nat_abs eb, size b c.requires.divisor) in
+    omega (arith, ints, c.rem_euclid-else-b-gt0.ensures.upper_bound, ap nat_abs eb, size b c.requires.divisor) in
     minus_is r less
-    ∙ ap neg_ℤ (c.rem-euclid-else-b-gt0.ensures.value ∙ ap (λ z. int_rem_euclid z (minus b)) ea ∙ ap (int_rem_euclid (neg_ℤ a)) eb)
+    ∙ ap neg_ℤ (c.rem_euclid-else-b-gt0.ensures.value ∙ ap (λ z. int_rem_euclid z (minus b)) ea ∙ ap (int_rem_euclid (neg_ℤ a)) eb)
     ∙ sym (remainder_by_negative a b t c.requires.nonzero)
