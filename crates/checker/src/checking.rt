@@ -17,10 +17,10 @@ pub fn check<H: Host>(
     heights: &mut [u8],
     waiting: &mut [u16],
 ) -> Result<u8, Fault>
-    ensures verdict { result ≡ (checked (marks_of (means host.now)) trusted bytes.now heights.old waiting.old).verdict }
-    ensures heights { heights.new ≡ (checked (marks_of (means host.now)) trusted bytes.now heights.old waiting.old).heights }
-    ensures waiting { waiting.new ≡ (checked (marks_of (means host.now)) trusted bytes.now heights.old waiting.old).waiting }
-    ensures means { VerdictMeans (marks_of (means host.now)) trusted bytes.now (length heights.old) (length waiting.old) (record { verdict = result; heights = heights.new; waiting = waiting.new }) }
+    ensures verdict { result ≡ (checked (marks_of (H.means host.now)) trusted bytes.now heights.old waiting.old).verdict }
+    ensures heights { heights.new ≡ (checked (marks_of (H.means host.now)) trusted bytes.now heights.old waiting.old).heights }
+    ensures waiting { waiting.new ≡ (checked (marks_of (H.means host.now)) trusted bytes.now heights.old waiting.old).waiting }
+    ensures means { VerdictMeans (marks_of (H.means host.now)) trusted bytes.now (length heights.old) (length waiting.old) (record { verdict = result; heights = heights.new; waiting = waiting.new }) }
     ensures kinds { KindsAreNotJudged }
 {
     pass_stages(host, bytes, trusted, heights, waiting)

@@ -79,9 +79,9 @@ impl<'a> Run<'a> {
         arguments: &[Value],
         frame: &mut [Value],
     ) -> Option<Fault>
-        requires { Ready (parts parcel) (length (means host.now).variables) (length (means host.now).bindings) 0 0 }
+        requires { Ready (parts parcel) (length (H.means host.now).variables) (length (H.means host.now).bindings) 0 0 }
         ensures answer { result ≡ first (open_tests (parts parcel.entry) arguments.now frame.old) }
-        ensures run { view self.new ≡ if_none result (begun (parts parcel.entry) (means host.now)) (view self.old) }
+        ensures run { view self.new ≡ if_none result (begun (parts parcel.entry) (H.means host.now)) (view self.old) }
         ensures frame { frame.new ≡ if_none result (laid (parts parcel.entry) arguments.now frame.old) frame.old }
     {
         let layout = parcel.layout;
@@ -123,12 +123,12 @@ impl<'a> Run<'a> {
         heights: &mut [u8],
         waiting: &mut [u16],
     ) -> Result<u8, Fault>
-        ensures answer { result ≡ (opened (means host.now) trusted bytes.now arguments.now frame.old heights.old waiting.old (view self.old)).answer }
-        ensures run { view self.new ≡ (opened (means host.now) trusted bytes.now arguments.now frame.old heights.old waiting.old (view self.old)).run }
-        ensures frame { frame.new ≡ (opened (means host.now) trusted bytes.now arguments.now frame.old heights.old waiting.old (view self.old)).frame }
-        ensures heights { heights.new ≡ (checked (marks_of (means host.now)) trusted bytes.now heights.old waiting.old).heights }
-        ensures waiting { waiting.new ≡ (checked (marks_of (means host.now)) trusted bytes.now heights.old waiting.old).waiting }
-        ensures on { CarriesOn means may host.now (view self.old) host.now (view self.new) }
+        ensures answer { result ≡ (opened (H.means host.now) trusted bytes.now arguments.now frame.old heights.old waiting.old (view self.old)).answer }
+        ensures run { view self.new ≡ (opened (H.means host.now) trusted bytes.now arguments.now frame.old heights.old waiting.old (view self.old)).run }
+        ensures frame { frame.new ≡ (opened (H.means host.now) trusted bytes.now arguments.now frame.old heights.old waiting.old (view self.old)).frame }
+        ensures heights { heights.new ≡ (checked (marks_of (H.means host.now)) trusted bytes.now heights.old waiting.old).heights }
+        ensures waiting { waiting.new ≡ (checked (marks_of (H.means host.now)) trusted bytes.now heights.old waiting.old).waiting }
+        ensures on { CarriesOn H.means H.may host.now (view self.old) host.now (view self.new) }
     {
         match check(host, bytes, trusted, heights, waiting) {
             Ok(top) => match Parcel::read(bytes) {

@@ -38,7 +38,7 @@ pub fn push<H: Host>(
     requires fit { Fit (parts parcel) turn variables }
     requires room { turn.height + 1 ≤ turn.after }
     requires long { Long (parts parcel) (length frame.old) }
-    ensures { Runs means may (parts parcel.entry).literals (pushing (ground_of (parts parcel.entry)) turn.instruction turn.next turn.height turn.operation v) frame.old host.old (outcome_of result) frame.new host.new }
+    ensures { Runs H.means H.may (parts parcel.entry).literals (pushing (ground_of (parts parcel.entry)) turn.instruction turn.next turn.height turn.operation v) frame.old host.old (outcome_of result) frame.new host.new }
 {
     push_value(frame, base(parcel), turn.height, v);
     Went::On {
@@ -61,7 +61,7 @@ fn send<H: Host>(
     requires fit { Fit (parts parcel) turn variables }
     requires need { count + 1 ≤ turn.height }
     requires long { Long (parts parcel) (length frame.old) }
-    ensures { Runs means may (parts parcel.entry).literals (sending (ground_of (parts parcel.entry)) turn.instruction turn.next turn.height turn.operation is_super selector count) frame.old host.old (outcome_of result) frame.new host.new }
+    ensures { Runs H.means H.may (parts parcel.entry).literals (sending (ground_of (parts parcel.entry)) turn.instruction turn.next turn.height turn.operation is_super selector count) frame.old host.old (outcome_of result) frame.new host.new }
 {
     let base = base(parcel);
     let first = base + (turn.height - count);
@@ -111,7 +111,7 @@ pub fn send_special<H: Host>(
     requires is { turn.operation ≡ Send }
     requires fit { Fit (parts parcel) turn variables }
     requires long { Long (parts parcel) (length frame.old) }
-    ensures { Turned means may (parts parcel.entry) turn frame.old host.old result frame.new host.new }
+    ensures { Turned H.means H.may (parts parcel.entry) turn frame.old host.old result frame.new host.new }
 {
     let opcode = turn.instruction.opcode;
     send(
@@ -138,7 +138,7 @@ pub fn send_selector<H: Host>(
     requires is { turn.operation ≡ SendSelector is_super }
     requires fit { Fit (parts parcel) turn variables }
     requires long { Long (parts parcel) (length frame.old) }
-    ensures { Turned means may (parts parcel.entry) turn frame.old host.old result frame.new host.new }
+    ensures { Turned H.means H.may (parts parcel.entry) turn frame.old host.old result frame.new host.new }
 {
     let a = turn.instruction.argument;
     let selector = selector_number(parcel.literals, a / 256, a % 256);
@@ -221,7 +221,7 @@ fn value_from<H: Host>(
     requires is { turn.operation ≡ Push source }
     requires fit { Fit (parts parcel) turn variables }
     requires long { Long (parts parcel) (length frame.now) }
-    ensures { Some result ≡ pushed_value (parts parcel.entry) turn.instruction source frame.now (means host.now) }
+    ensures { Some result ≡ pushed_value (parts parcel.entry) turn.instruction source frame.now (H.means host.now) }
 {
     let a = turn.instruction.argument;
     match source {
@@ -247,7 +247,7 @@ pub fn push_from<H: Host>(
     requires is { turn.operation ≡ Push source }
     requires fit { Fit (parts parcel) turn variables }
     requires long { Long (parts parcel) (length frame.old) }
-    ensures { Turned means may (parts parcel.entry) turn frame.old host.old result frame.new host.new }
+    ensures { Turned H.means H.may (parts parcel.entry) turn frame.old host.old result frame.new host.new }
 {
     let v = value_from(parcel, turn, variables, source, host, frame);
     push(parcel, turn, variables, v, host, frame)
@@ -265,7 +265,7 @@ pub fn store_to<H: Host>(
     requires is { turn.operation ≡ Store target }
     requires fit { Fit (parts parcel) turn variables }
     requires long { Long (parts parcel) (length frame.old) }
-    ensures { Turned means may (parts parcel.entry) turn frame.old host.old result frame.new host.new }
+    ensures { Turned H.means H.may (parts parcel.entry) turn frame.old host.old result frame.new host.new }
 {
     let a = turn.instruction.argument;
     let base = base(parcel);
@@ -309,7 +309,7 @@ pub fn branch<H: Host>(
     requires is { turn.operation ≡ Branch when }
     requires fit { Fit (parts parcel) turn variables }
     requires long { Long (parts parcel) (length frame.old) }
-    ensures { Turned means may (parts parcel.entry) turn frame.old host.old result frame.new host.new }
+    ensures { Turned H.means H.may (parts parcel.entry) turn frame.old host.old result frame.new host.new }
 {
     let place = land(parcel, turn, Direction::Forward);
     let height = turn.after;
@@ -351,7 +351,7 @@ pub fn close<H: Host>(
     requires is { turn.operation ≡ Close }
     requires fit { Fit (parts parcel) turn variables }
     requires long { Long (parts parcel) (length frame.old) }
-    ensures { Turned means may (parts parcel.entry) turn frame.old host.old result frame.new host.new }
+    ensures { Turned H.means H.may (parts parcel.entry) turn frame.old host.old result frame.new host.new }
 {
     let base = base(parcel);
     let v = frame[base + (turn.height - 1)];

@@ -69,7 +69,7 @@ impl Run<'_> {
 
     // Why a live run is not stepped: the host's counts are not those noted, or the frame is too short.
     fn refusal<H: Host>(&self, host: &H, cells: usize) -> Option<Fault>
-        ensures answer { result ≡ (if is_live self.now.state then first (count_tests (view self.now) (means host.now) cells) else None) }
+        ensures answer { result ≡ (if is_live self.now.state then first (count_tests (view self.now) (H.means host.now) cells) else None) }
         ensures long { IfNone result (self.now.state ≡ Live → Long (parts self.now.parcel) cells) }
     {
         match self.state {
@@ -102,7 +102,7 @@ impl Run<'_> {
         requires turn { self.old.state ≡ Live → NextTurn (view self.old) turn }
         requires long { self.old.state ≡ Live → Long (parts self.old.parcel) (length frame.old) }
         ensures run { view self.new ≡ view self.old }
-        ensures went { Performed means may (view self.old) turn host.old frame.old result host.new frame.new }
+        ensures went { Performed H.means H.may (view self.old) turn host.old frame.old result host.new frame.new }
     {
         let parcel = self.parcel;
         let variables = self.variables;
@@ -165,7 +165,7 @@ impl Run<'_> {
 
     // One step.
     fn step_once<H: Host>(&mut self, host: &mut H, frame: &mut [Value]) -> Result<(), Fault>
-        ensures { Steps means may (view self.old) host.old frame.old result (view self.new) host.new frame.new }
+        ensures { Steps H.means H.may (view self.old) host.old frame.old result (view self.new) host.new frame.new }
     {
         let turn = self.peek();
         if let Some(fault) = self.refusal(host, frame.len()) {
@@ -183,11 +183,11 @@ impl Run<'_> {
     // Makes one step on a host with a frame: one instruction, or a refusal that leaves everything. Every list of opening, stepping and collecting
     // calls is safe.
     pub fn step<H: Host>(&mut self, host: &mut H, frame: &mut [Value]) -> Result<(), Fault>
-        ensures steps { Steps means may (view self.old) host.old frame.old result (view self.new) host.new frame.new }
-        ensures on { CarriesOn means may host.old (view self.old) host.new (view self.new) }
-        ensures off { (run : Running) → CarriesOff means may host.new run }
-        ensures safe { EveryHistoryIsSafe means may }
-        ensures laws { ScriptLaws means may }
+        ensures steps { Steps H.means H.may (view self.old) host.old frame.old result (view self.new) host.new frame.new }
+        ensures on { CarriesOn H.means H.may host.old (view self.old) host.new (view self.new) }
+        ensures off { (run : Running) → CarriesOff H.means H.may host.new run }
+        ensures safe { EveryHistoryIsSafe H.means H.may }
+        ensures laws { ScriptLaws H.means H.may }
     {
         self.step_once(host, frame)
     }

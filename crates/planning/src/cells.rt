@@ -11,7 +11,7 @@ use std::io;
 
 // Variable i of a host, if there is one.
 pub fn variable_text<H: Host>(host: &H, i: usize) -> Option<CellText>
-    ensures { result ≡ option_map (cell_line row.Variable i) (slice_get (means host.now).variables i) }
+    ensures { result ≡ option_map (cell_line row.Variable i) (slice_get (H.means host.now).variables i) }
 {
     match (host.variable_trusted(i), host.variable(i)) {
         (Ok(trusted), Ok(value)) => Some(CellText {
@@ -26,7 +26,7 @@ pub fn variable_text<H: Host>(host: &H, i: usize) -> Option<CellText>
 
 // Binding i of a host, if there is one.
 pub fn binding_text<H: Host>(host: &H, i: usize) -> Option<CellText>
-    ensures { result ≡ option_map (cell_line row.Binding i) (slice_get (means host.now).bindings i) }
+    ensures { result ≡ option_map (cell_line row.Binding i) (slice_get (H.means host.now).bindings i) }
 {
     match (host.binding_trusted(i), host.binding(i)) {
         (Ok(trusted), Ok(value)) => Some(CellText {

@@ -44,8 +44,8 @@ fn run_all<H: Host>(
     host: &mut H,
     paths: &[String],
 ) -> anyhow::Result<()>
-    ensures kept { plan.now.trusted ≡ false → KeepsTrusted (means host.old) (means host.new) }
-    ensures handled { OnOk result (InTurn means may plan.now host.old (length paths.now) host.new) }
+    ensures kept { plan.now.trusted ≡ false → KeepsTrusted (H.means host.old) (H.means host.new) }
+    ensures handled { OnOk result (InTurn H.means H.may plan.now host.old (length paths.now) host.new) }
 {
     for path in paths {
         let parcel = bytes_of(rt, "parcel", path)?;

@@ -26,7 +26,7 @@ use values::Value;
 
 // What a check finds.
 pub fn verdict_of<H: Host>(host: &H, bytes: &[u8], trusted: bool) -> Verdict
-    ensures { result ≡ verdict (checked (marks_of (means host.now)) trusted bytes.now (replicate 2048 0) (replicate 2048 0)).verdict }
+    ensures { result ≡ verdict (checked (marks_of (H.means host.now)) trusted bytes.now (replicate 2048 0) (replicate 2048 0)).verdict }
 {
     let mut heights = [0u8; 2048];
     let mut waiting = [0u16; 2048];
@@ -97,9 +97,9 @@ fn follow<H: Host>(
     host: &mut H,
     frame: &mut [Value],
 ) -> io::Result<Outcome>
-    requires { Going means may host.old (view run.old) frame.old }
-    ensures leads { LeadsOn means may host.old (view run.old) host.new (view run.new) }
-    ensures outcome { IfOk result (λ o. Followed means may plan.now.steps host.old (view run.old) frame.old o host.new (view run.new) frame.new) }
+    requires { Going H.means H.may host.old (view run.old) frame.old }
+    ensures leads { LeadsOn H.means H.may host.old (view run.old) host.new (view run.new) }
+    ensures outcome { IfOk result (λ o. Followed H.means H.may plan.now.steps host.old (view run.old) frame.old o host.new (view run.new) frame.new) }
 {
     for k in 0..plan.steps {
         match run.state() {
@@ -123,8 +123,8 @@ fn play<H: Host>(
     bytes: &[u8],
     frame: &mut [Value],
 ) -> io::Result<Outcome>
-    ensures kept { plan.now.trusted ≡ false → KeepsTrusted (means host.old) (means host.new) }
-    ensures outcome { IfOk result (λ o. Played means may (opened (means host.old) plan.now.trusted bytes.now plan.now.arguments.items frame.old (replicate 2048 0) (replicate 2048 0) empty) plan.now.steps host.old o host.new frame.new) }
+    ensures kept { plan.now.trusted ≡ false → KeepsTrusted (H.means host.old) (H.means host.new) }
+    ensures outcome { IfOk result (λ o. Played H.means H.may (opened (H.means host.old) plan.now.trusted bytes.now plan.now.arguments.items frame.old (replicate 2048 0) (replicate 2048 0) empty) plan.now.steps host.old o host.new frame.new) }
 {
     let mut heights = [0u8; 2048];
     let mut waiting = [0u16; 2048];
@@ -151,8 +151,8 @@ pub fn run_parcel<H: Host>(
     path: &str,
     bytes: &[u8],
 ) -> io::Result<()>
-    ensures kept { plan.now.trusted ≡ false → KeepsTrusted (means host.old) (means host.new) }
-    ensures handled { OnOk result (Handled means may plan.now bytes.now host.old host.new) }
+    ensures kept { plan.now.trusted ≡ false → KeepsTrusted (H.means host.old) (H.means host.new) }
+    ensures handled { OnOk result (Handled H.means H.may plan.now bytes.now host.old host.new) }
 {
     let verdict = verdict_of(host, bytes, plan.trusted);
     println!(rt; "parcel {path}: {verdict}")?;

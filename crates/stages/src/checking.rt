@@ -21,7 +21,7 @@ fn find_fault<H: Host>(
     waiting: &mut [u16],
 ) -> Option<Fault>
     requires { (length parcel.code.now ≤ 4096) × ((parcel.layout.slots ≤ 252) × ((length heights.old ≡ pairs parcel.code.now) × (length waiting.old ≡ pairs parcel.code.now))) }
-    ensures { outcome result heights.new ≡ judged (setting (parts parcel.entry) (marks_of (means host.now)) trusted) }
+    ensures { outcome result heights.new ≡ judged (setting (parts parcel.entry) (marks_of (H.means host.now)) trusted) }
 {
     if let Some(fault) = encoding_fault(host, parcel, trusted) {
         return Some(fault);
@@ -39,8 +39,8 @@ fn judge<H: Host>(
     waiting: &mut [u16],
 ) -> Result<u8, Fault>
     requires { (length parcel.code.now ≤ 4096) × ((parcel.layout.slots ≤ 252) × ((length heights.old ≡ pairs parcel.code.now) × (length waiting.old ≡ pairs parcel.code.now))) }
-    ensures verdict { result ≡ verdict_of (judged (setting (parts parcel.entry) (marks_of (means host.now)) trusted)) }
-    ensures heights { heights.new ≡ heights_of (pairs parcel.entry.code.now) (judged (setting (parts parcel.entry) (marks_of (means host.now)) trusted)) }
+    ensures verdict { result ≡ verdict_of (judged (setting (parts parcel.entry) (marks_of (H.means host.now)) trusted)) }
+    ensures heights { heights.new ≡ heights_of (pairs parcel.entry.code.now) (judged (setting (parts parcel.entry) (marks_of (H.means host.now)) trusted)) }
     ensures waiting { waiting.new ≡ replicate (pairs parcel.entry.code.now) 0 }
 {
     let fault = find_fault(host, parcel, trusted, heights, waiting);
@@ -56,7 +56,7 @@ fn judge<H: Host>(
 
 // How many bindings a host has: as many as marks.
 fn count_bindings<H: Host>(host: &H) -> usize
-    ensures { result ≡ length (marks_of (means host.now)).bindings }
+    ensures { result ≡ length (marks_of (H.means host.now)).bindings }
 {
     host.binding_count()
 }
@@ -68,7 +68,7 @@ fn admission_fault<H: Host>(
     heights: usize,
     waiting: usize,
 ) -> Option<Fault>
-    ensures answer { result ≡ admission_fault (marks_of (means host.now)) (parts parcel.entry) heights waiting }
+    ensures answer { result ≡ admission_fault (marks_of (H.means host.now)) (parts parcel.entry) heights waiting }
     ensures fits { IfNone result ((pairs parcel.entry.code.now ≤ heights) × (pairs parcel.entry.code.now ≤ waiting)) }
 {
     if let Some(fault) = first_wrong(
@@ -95,7 +95,7 @@ fn admit<'a, H: Host>(
     heights: usize,
     waiting: usize,
 ) -> Result<Parcel<'a>, Fault>
-    ensures answer { seen result ≡ admitted (marks_of (means host.now)) bytes.now heights waiting }
+    ensures answer { seen result ≡ admitted (marks_of (H.means host.now)) bytes.now heights waiting }
     ensures fits { IfOk result (λ p. (length p.code.now ≤ 4096) × (p.layout.slots ≤ 252) × (pairs p.code.now ≤ heights) × (pairs p.code.now ≤ waiting)) }
 {
     let parcel = Parcel::read(bytes)?;
@@ -114,9 +114,9 @@ pub fn pass_stages<H: Host>(
     heights: &mut [u8],
     waiting: &mut [u16],
 ) -> Result<u8, Fault>
-    ensures verdict { result ≡ (checked (marks_of (means host.now)) trusted bytes.now heights.old waiting.old).verdict }
-    ensures heights { heights.new ≡ (checked (marks_of (means host.now)) trusted bytes.now heights.old waiting.old).heights }
-    ensures waiting { waiting.new ≡ (checked (marks_of (means host.now)) trusted bytes.now heights.old waiting.old).waiting }
+    ensures verdict { result ≡ (checked (marks_of (H.means host.now)) trusted bytes.now heights.old waiting.old).verdict }
+    ensures heights { heights.new ≡ (checked (marks_of (H.means host.now)) trusted bytes.now heights.old waiting.old).heights }
+    ensures waiting { waiting.new ≡ (checked (marks_of (H.means host.now)) trusted bytes.now heights.old waiting.old).waiting }
 {
     let parcel = admit(host, bytes, heights.len(), waiting.len())?;
     let pairs = parcel.code.len() / 2;

@@ -119,7 +119,7 @@ fn permits_return(kind: CodeKind) -> bool
 
 // How many variables a host has: as many as marks.
 fn count_variables<H: Host>(host: &H) -> usize
-    ensures { result ≡ length (marks_of (means host.now)).variables }
+    ensures { result ≡ length (marks_of (H.means host.now)).variables }
 {
     host.variable_count()
 }
@@ -136,7 +136,7 @@ fn is_trusted(mark: Result<bool, Fault>) -> bool
 
 // Whether a literal names a trusted binding.
 fn names_trusted<H: Host>(host: &H, literal: Option<Literal>) -> bool
-    ensures { result ≡ names_trusted (marks_of (means host.now)).bindings literal }
+    ensures { result ≡ names_trusted (marks_of (H.means host.now)).bindings literal }
 {
     match literal {
         Some(Literal::Binding(n)) => is_trusted(host.binding_trusted(n as usize)),
@@ -146,7 +146,7 @@ fn names_trusted<H: Host>(host: &H, literal: Option<Literal>) -> bool
 
 // Whether an instruction stores to a trusted cell.
 fn stores_trusted<H: Host>(host: &H, literals: &[u8], operation: Operation, a: u32) -> bool
-    ensures { result ≡ stores_trusted (marks_of (means host.now)) literals.now a operation }
+    ensures { result ≡ stores_trusted (marks_of (H.means host.now)) literals.now a operation }
 {
     match operation {
         Operation::Store(Target::Variable) => is_trusted(host.variable_trusted(a as usize)),
@@ -188,7 +188,7 @@ fn operation_fault<H: Host>(
     site: Site,
     operation: Operation,
 ) -> Option<Fault>
-    ensures { result ≡ first (operation_tests (setting (parts parcel.entry) (marks_of (means host.now)) trusted) site operation) }
+    ensures { result ≡ first (operation_tests (setting (parts parcel.entry) (marks_of (H.means host.now)) trusted) site operation) }
 {
     let a = site.instruction.argument;
     let place = site.place;
@@ -234,7 +234,7 @@ fn operation_fault<H: Host>(
 
 // The first rule that an instruction breaks where it stands.
 pub fn site_fault<H: Host>(host: &H, parcel: Parcel, trusted: bool, site: Site) -> Option<Fault>
-    ensures { result ≡ site_fault (setting (parts parcel.entry) (marks_of (means host.now)) trusted) site }
+    ensures { result ≡ site_fault (setting (parts parcel.entry) (marks_of (H.means host.now)) trusted) site }
 {
     match Operation::of(site.instruction.opcode) {
         Some(operation) => operation_fault(host, parcel, trusted, site, operation),

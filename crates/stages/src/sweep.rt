@@ -37,7 +37,7 @@ fn pushes_block(literals: &[u8], instruction: Instruction) -> bool
 
 // The first fault of the instructions in turn.
 fn sweep<H: Host>(host: &H, parcel: Parcel, trusted: bool) -> Option<Fault>
-    ensures { result ≡ swept (setting (parts parcel.entry) (marks_of (means host.now)) trusted) (length parcel.entry.code.now) false 0 }
+    ensures { result ≡ swept (setting (parts parcel.entry) (marks_of (H.means host.now)) trusted) (length parcel.entry.code.now) false 0 }
 {
     let mut reader = Reader::at(parcel.code, 0);
     let mut after_block = false;
@@ -68,7 +68,7 @@ fn sweep<H: Host>(host: &H, parcel: Parcel, trusted: bool) -> Option<Fault>
 // The first fault of the encoding stage.
 pub fn encoding_fault<H: Host>(host: &H, parcel: Parcel, trusted: bool) -> Option<Fault>
     ensures whole { IfNone result ((0 < length parcel.entry.code.now) × (length parcel.entry.code.now % 2 ≡ 0)) }
-    ensures answer { result ≡ encoding_fault (setting (parts parcel.entry) (marks_of (means host.now)) trusted) }
+    ensures answer { result ≡ encoding_fault (setting (parts parcel.entry) (marks_of (H.means host.now)) trusted) }
 {
     let length = parcel.code.len();
     if length == 0 {

@@ -4,6 +4,6 @@ use Rattle.listing.proofs.listed.list.Goals as goal
 
 pub returns : goal.returns
 returns c = record {
-  answer = c.verdict_over.ensures ∙ ap (λ (f : List ℕ). verdict_over f 2048 c.args.parcel.now) c.in-ok-host.ensures;
+  answer = c.verdict_over.ensures ∙ ap (λ (f : List ℕ). verdict_over f 2048 c.args.parcel.now) c.in_ok-host.ensures;
   tried = (refl, refl, refl, refl, refl, refl, refl, refl, refl, refl, refl, refl);
 }

@@ -10,10 +10,10 @@ rest n xs = ap (λ (k : ℕ). drop k xs) (omega arith)
 
 pub returns : goal.returns
 returns g c =
-    let n = length c.in-ok-parcel.parcel.code.now / 2 in
+    let n = length c.in_ok-parcel.parcel.code.now / 2 in
     let hs = c.args.heights.now in
     let ws = c.args.waiting.now in
-    let a = ap (answered (marks_of (g.H.Host.means c.args.host.now)) c.args.trusted hs ws) c.in-ok-parcel.ensures.answer in
+    let a = ap (answered (marks_of (g.H.Host.means c.args.host.now)) c.args.trusted hs ws) c.in_ok-parcel.ensures.answer in
     let h = c.judge.ensures.heights in
     let w = c.judge.ensures.waiting in
     let rh = rest n hs in

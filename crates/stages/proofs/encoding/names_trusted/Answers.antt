@@ -6,5 +6,5 @@ use Rattle.stages.proofs.encoding.names_trusted.Goals as goal
 pub returns-in-Some-Binding : goal.returns-in-Some-Binding
 returns-in-Some-Binding g c =
     let m = g.H.Host.means c.args.host.now in
-    let e = c.is-trusted.ensures ∙ ap told_trusted c.binding-trusted.ensures ∙ told_mark m.bindings c.in-Some-Binding.n in
+    let e = c.is_trusted.ensures ∙ ap told_trusted c.binding_trusted.ensures ∙ told_mark m.bindings c.in-Some-Binding.n in
     search rules

@@ -6,5 +6,5 @@ use Rattle.stages.proofs.encoding.stores_trusted.Goals as goal
 pub returns-in-Store-Variable : goal.returns-in-Store-Variable
 returns-in-Store-Variable g c =
     let m = g.H.Host.means c.args.host.now in
-    let e = c.is-trusted.ensures ∙ ap told_trusted c.variable-trusted.ensures ∙ told_mark m.variables c.args.a in
+    let e = c.is_trusted.ensures ∙ ap told_trusted c.variable_trusted.ensures ∙ told_mark m.variables c.args.a in
     search rules

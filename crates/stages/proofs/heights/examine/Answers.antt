@@ -4,7 +4,7 @@ use Rattle.std.proofs.lemmas.Bool.{cond-true, lt-ltb}
 use Rattle.stages.specs.Examination.{height_after}
 use Rattle.stages.proofs.Works.{blanks, whole, whole_is, Taken, Visits, start, take, none, low, high, visiting, past, other, known, new, skip, begin, again, found, moved}
 use Rattle.stages.proofs.heights.examine.Goals as goal
-use Rattle.stages.proofs.heights.examine.Goals.{In-Some, in-Some-to+else-s-code+then-heights-s, in-Some-to+else-s-code+else-heights-s+else-heights-s-2, in-default-to}
+use Rattle.stages.proofs.heights.examine.Goals.{In-Some, in-Some-to+else-s-code+then-heights-s, in-Some-to+else-s-code+else-heights-s+else-heights-s-2, in_default-to}
 
 pub examine-init : goal.examine-init
 examine-init c = (start c.args.code.now c.args.limit c.args.heights.now c.args.waiting.now (omega arith) (omega arith), refl)
@@ -37,16 +37,16 @@ examine-smaller c =
 
 pub examine-preserved : goal.examine-preserved
 examine-preserved c =
-    let d = c.demand-at-demand.result in
+    let d = c.demand_at-demand.result in
     let a = height_after d (get_or c.examine.heights (c.in-Some.newest / 2) 0) in
     let t = taken (goal.at.examine-preserved c).In-Some in
     let l : a ≤ c.args.limit = omega (arith, c.if-after-limit.false) in
-    let q = visiting t d c.demand-at-demand.ensures a c.if-h-demand.false refl l in
+    let q = visiting t d c.demand_at-demand.ensures a c.if-h-demand.false refl l in
     (again t a d.to q c.loop-to.invariant.0 (omega arith), search rules)
 
-pub returns-in-default : goal.returns-in-default
-returns-in-default c =
-    let e = c.in-default.ensures in
+pub returns-in_default : goal.returns-in_default
+returns-in_default c =
+    let e = c.in_default.ensures in
     let s = c.examine.invariant.0 in
     let r = s.ready in
     let z : c.examine.stack.height ≡ 0 = ⊎_elim (λ (q : c.examine.stack.height ≡ 0). q) (λ (q : length c.examine.stack.cells.now < c.examine.stack.height). absurd (omega (arith, r.room, r.wide, q))) e.said in
@@ -55,31 +55,31 @@ returns-in-default c =
 pub returns-then-h-demand : goal.returns-then-h-demand
 returns-then-h-demand c =
     let t = taken (goal.at.returns-then-h-demand c).In-Some in
-    low t c.demand-at-demand.result c.demand-at-demand.ensures c.if-h-demand.true
+    low t c.demand_at-demand.result c.demand_at-demand.ensures c.if-h-demand.true
     ∙ whole_is c.args.code.now c.args.limit c.args.heights.now c.args.waiting.now (omega arith)
 
 pub returns-then-after-limit : goal.returns-then-after-limit
 returns-then-after-limit c =
     let t = taken (goal.at.returns-then-after-limit c).In-Some in
-    high t c.demand-at-demand.result c.demand-at-demand.ensures c.if-h-demand.false c.if-after-limit.true
+    high t c.demand_at-demand.result c.demand_at-demand.ensures c.if-h-demand.false c.if-after-limit.true
     ∙ whole_is c.args.code.now c.args.limit c.args.heights.now c.args.waiting.now (omega arith)
 
 pub returns-then-s-code : goal.returns-then-s-code
 returns-then-s-code c =
-    let d = c.demand-at-demand.result in
+    let d = c.demand_at-demand.result in
     let a = height_after d (get_or c.examine.heights (c.in-Some.newest / 2) 0) in
     let t = taken (goal.at.returns-then-s-code c).In-Some in
-    let q = visiting t d c.demand-at-demand.ensures a c.if-h-demand.false refl c.if-after-limit.false in
+    let q = visiting t d c.demand_at-demand.ensures a c.if-h-demand.false refl c.if-after-limit.false in
     let is : get_or d.to c.loop-to.to-index None ≡ Some c.in-Some-to.s = search rules in
     found t a d.to q _ (past c.loop-to.invariant.0 c.in-Some-to.s (grind arith) is c.if-s-code.true)
     ∙ whole_is c.args.code.now c.args.limit c.args.heights.now c.args.waiting.now (omega arith)
 
 pub returns-then-heights-s-2 : goal.returns-then-heights-s-2
 returns-then-heights-s-2 c =
-    let d = c.demand-at-demand.result in
+    let d = c.demand_at-demand.result in
     let a = height_after d (get_or c.examine.heights (c.in-Some.newest / 2) 0) in
     let t = taken (goal.at.returns-then-heights-s-2 c).In-Some in
-    let q = visiting t d c.demand-at-demand.ensures a c.if-h-demand.false refl c.if-after-limit.false in
+    let q = visiting t d c.demand_at-demand.ensures a c.if-h-demand.false refl c.if-after-limit.false in
     let is : get_or d.to c.loop-to.to-index None ≡ Some c.in-Some-to.s = search rules in
     found t a d.to q _ (other c.loop-to.invariant.0 c.in-Some-to.s (grind arith) is c.if-s-code.false c.if-heights-s.false c.if-heights-s-2.true)
     ∙ whole_is c.args.code.now c.args.limit c.args.heights.now c.args.waiting.now (omega arith)
@@ -87,7 +87,7 @@ returns-then-heights-s-2 c =
 pub loop-to-preserved : goal.loop-to-preserved
 loop-to-preserved c =
     let v = c.loop-to.invariant.0 in
-    let d = c.demand-at-demand.result in
+    let d = c.demand_at-demand.result in
     let i : c.loop-to.to-index < length d.to = grind arith in
     elim c.match-to.branch [
       | in-Some-to+else-s-code+then-heights-s w ↦
@@ -107,7 +107,7 @@ loop-to-preserved c =
                 (known v w.in-Some-to.s i is w.if-s-code.false w.if-heights-s.false w.if-heights-s-2.false),
             search rules,
           )
-      | in-default-to w ↦
+      | in_default-to w ↦
           let is : get_or d.to c.loop-to.to-index None ≡ None = search rules in
           (moved w.heights-is (λ j. (w.stack-is j).cells.now) (λ j. (w.stack-is j).height) (skip v i is), search rules)
     ]

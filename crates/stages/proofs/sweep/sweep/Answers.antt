@@ -24,13 +24,13 @@ pub returns-in-Err : goal.returns-in-Err
 returns-in-Err g c =
     let code = c.loop-reader.invariant.1 in
     let p = c.loop-reader.reader.place in
-    ap (λ (r : Rule). Some (fault r p)) c.rule-of.ensures
+    ap (λ (r : Rule). Some (fault r p)) c.rule_of.ensures
     ∙ unread c.in-Err.e
     (turn _ _ p (Err c.in-Err.e) c.loop-reader.invariant.0 c.loop-reader-test.true (c.in-Err.ensures.reads ∙ ap (λ (l : List ℕ). read_at l p) code))
 
 -- the turn at an instruction that is read
 read : (g : given.Over) (c : In-Ok g)
-    → Turn (setting (parts c.args.parcel) (marks_of (g.H.Host.means c.args.host.now)) c.args.trusted) c.loop-reader.after-block c.loop-reader.reader.place
+    → Turn (setting (parts c.args.parcel) (marks_of (g.H.Host.means c.args.host.now)) c.args.trusted) c.loop-reader.after_block c.loop-reader.reader.place
     (Ok (c.in-Ok.instruction, c.in-Ok.field-0-1.now))
 read g c =
     let p = c.loop-reader.reader.place in
@@ -48,7 +48,7 @@ returns-in-Some g c =
     let p = c.loop-reader.reader.place in
     let i = c.in-Ok.instruction in
     broken i c.in-Ok.field-0-1.now (read g d) c.in-Some.fault
-    (c.in-Some.ensures ∙ ap (λ (n : ℕ). site_fault x (record { place = p; instruction = i; next = n; after_block = c.loop-reader.after-block })) (next g d))
+    (c.in-Some.ensures ∙ ap (λ (n : ℕ). site_fault x (record { place = p; instruction = i; next = n; after_block = c.loop-reader.after_block })) (next g d))
 
 pub loop-reader-preserved : goal.loop-reader-preserved
 loop-reader-preserved g c =
@@ -57,12 +57,12 @@ loop-reader-preserved g c =
     let p = c.loop-reader.reader.place in
     let i = c.in-Ok.instruction in
     let e = next g d in
-    let b = c.pushes-block-after-block.ensures in
+    let b = c.pushes_block-after_block.ensures in
     let s = onward i c.in-Ok.field-0-1.now (read g d)
-    (c.in-default.ensures ∙ ap (λ (n : ℕ). site_fault x (record { place = p; instruction = i; next = n; after_block = c.loop-reader.after-block })) e)
+    (c.in_default.ensures ∙ ap (λ (n : ℕ). site_fault x (record { place = p; instruction = i; next = n; after_block = c.loop-reader.after_block })) e)
     (omega (arith, e, c.in-Ok.ensures.within.0))
     in (
-      subst (λ (n : ℕ). Sofar x c.pushes-block-after-block.result n) (sym e) (subst (λ v. Sofar x v (p + 2 * i.pairs)) (sym b) s),
+      subst (λ (n : ℕ). Sofar x c.pushes_block-after_block.result n) (sym e) (subst (λ v. Sofar x v (p + 2 * i.pairs)) (sym b) s),
       c.in-Ok.ensures.code ∙ c.loop-reader.invariant.1,
     )
 

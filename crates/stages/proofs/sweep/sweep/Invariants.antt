@@ -7,7 +7,7 @@ use Rattle.stages.proofs.sweep.sweep.Given as goal
 
 abbrev pub invariant-loop-reader : goal.invariant-loop-reader
 invariant-loop-reader g l =
-    Sofar (setting (parts l.parcel) (marks_of (g.H.Host.means l.host)) l.trusted) l.after-block l.reader.place
+    Sofar (setting (parts l.parcel) (marks_of (g.H.Host.means l.host)) l.trusted) l.after_block l.reader.place
     × (l.reader.code.now ≡ l.parcel.code.now)
 
 abbrev pub decreases-loop-reader : goal.decreases-loop-reader

@@ -8,4 +8,4 @@ returns c = λ ws x.
     let before = vec_items c.args.self.now.paths in
     let after = vec_items c.push.new.self in
     pathed ws c.args.self.now.plan (texts_of before) c.args.word.now (texts_of after) c.args.self.now.awaited c.requires.plain c.requires.path
-    (texts_pushed before after c.in-ok-path.path c.args.word.now c.in-ok-push.ensures.items c.in-ok-path.ensures.ok) x
+    (texts_pushed before after c.in_ok-path.path c.args.word.now c.in_ok-push.ensures.items c.in_ok-path.ensures.ok) x

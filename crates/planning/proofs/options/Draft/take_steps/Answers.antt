@@ -5,5 +5,5 @@ use Rattle.planning.proofs.options.Draft.take_steps.Goals as goal
 
 pub returns : goal.returns
 returns c = λ ws x.
-    counted ws c.args.self.now.plan (texts_of (vec_items c.args.self.now.paths)) c.args.word.now c.in-ok-self.field-0 c.args.self.now.awaited c.requires
-    c.in-ok-self.ensures x
+    counted ws c.args.self.now.plan (texts_of (vec_items c.args.self.now.paths)) c.args.word.now c.in_ok-self.field-0 c.args.self.now.awaited c.requires
+    c.in_ok-self.ensures x

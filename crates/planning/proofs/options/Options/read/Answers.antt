@@ -12,7 +12,7 @@ loop-word-preserved c =
     let i = c.loop-word.word-index in
     let words = c.args.words.now in
     subst⁻¹ (λ (ws : List (List ℕ)). Drafted c.take.new.self ws) (texts_more words i c.word-item.result c.deref.result.now c.loop-word-test.true c.word-item.is c.deref.ensures)
-    (c.in-ok-take.ensures (texts_of (take i words)) c.loop-word.invariant)
+    (c.in_ok-take.ensures (texts_of (take i words)) c.loop-word.invariant)
 
 pub returns : goal.returns
 returns c =

@@ -5,9 +5,9 @@ use Rattle.week_file.proofs.Asking.{said, unsaid}
 use Rattle.week_file.proofs.file.WeekFile.cell_trusted.Goals as goal
 
 pub returns : goal.returns
-returns c = ap Ok c.trusted.ensures ∙ said (λ (x : Cell). x.trusted) (vec_items c.args.self.now.bytes) c.args.row c.args.i _ c.in-ok-raw-cell.ensures
+returns c = ap Ok c.trusted.ensures ∙ said (λ (x : Cell). x.trusted) (vec_items c.args.self.now.bytes) c.args.row c.args.i _ c.in_ok-raw_cell.ensures
 
-pub returns-in-err-raw-cell : goal.returns-in-err-raw-cell
-returns-in-err-raw-cell c =
+pub returns-in_err-raw_cell : goal.returns-in_err-raw_cell
+returns-in_err-raw_cell c =
     let p = err_from_is_err_and c.from-residual.result c.from-residual.ensures.1 in
-    p.1 ∙ ap Err p.2 ∙ unsaid (λ (x : Cell). x.trusted) (vec_items c.args.self.now.bytes) c.args.row c.args.i c.in-err-raw-cell.field-0.0 c.in-err-raw-cell.ensures
+    p.1 ∙ ap Err p.2 ∙ unsaid (λ (x : Cell). x.trusted) (vec_items c.args.self.now.bytes) c.args.row c.args.i c.in_err-raw_cell.field-0.0 c.in_err-raw_cell.ensures

@@ -11,16 +11,16 @@ pub read-requires : goal.read-requires
 read-requires c =
     let b = vec_items c.args.self.now.bytes in
     let w = c.args.row in
-    let f = found (start_of b w) (count_of b w) c.args.i c.in-ok-place.place c.in-ok-place.ensures in
-    omega (arith, fits b c.in-ok-place.place (cell_in b w c.args.i c.in-ok-place.place f), ap length c.deref.ensures.value)
+    let f = found (start_of b w) (count_of b w) c.args.i c.in_ok-place.place c.in_ok-place.ensures in
+    omega (arith, fits b c.in_ok-place.place (cell_in b w c.args.i c.in_ok-place.place f), ap length c.deref.ensures.value)
 
 pub returns : goal.returns
 returns c =
     let b = vec_items c.args.self.now.bytes in
-    ap Ok (c.read.ensures ∙ ap (λ l. raw_at l c.in-ok-place.place) c.deref.ensures.value) ∙ ap (raw_by b) c.in-ok-place.ensures
+    ap Ok (c.read.ensures ∙ ap (λ l. raw_at l c.in_ok-place.place) c.deref.ensures.value) ∙ ap (raw_by b) c.in_ok-place.ensures
 
-pub returns-in-err-place : goal.returns-in-err-place
-returns-in-err-place c =
+pub returns-in_err-place : goal.returns-in_err-place
+returns-in_err-place c =
     let b = vec_items c.args.self.now.bytes in
     let p = err_from_is_err_and c.from-residual.result c.from-residual.ensures.1 in
-    p.1 ∙ ap Err p.2 ∙ ap (raw_by b) c.in-err-place.ensures
+    p.1 ∙ ap Err p.2 ∙ ap (raw_by b) c.in_err-place.ensures
