@@ -13,13 +13,13 @@ returns g c =
     let b = c.args.bytes.now in
     let hs = c.args.heights.now in
     let ws = c.args.waiting.now in
-    let v = sym c.pass-stages.ensures.verdict in
-    let h = sym c.pass-stages.ensures.heights in
-    let w = sym c.pass-stages.ensures.waiting in
+    let v = sym c.pass_stages.ensures.verdict in
+    let h = sym c.pass_stages.ensures.heights in
+    let w = sym c.pass_stages.ensures.waiting in
     record {
-      verdict = c.pass-stages.ensures.verdict;
-      heights = c.pass-stages.ensures.heights;
-      waiting = c.pass-stages.ensures.waiting;
+      verdict = c.pass_stages.ensures.verdict;
+      heights = c.pass_stages.ensures.heights;
+      waiting = c.pass_stages.ensures.waiting;
       means = subst (VerdictMeans m t b (length hs) (length ws)) (λ i. record { verdict = v i; heights = h i; waiting = w i }) (every_verdict_means m t b hs ws);
       kinds = λ x y e t b hs ws. ap (λ (n : Marks). checked n t b hs ws) e;
     }

@@ -43,4 +43,4 @@ laid f args front cells l h e q = by front e cells q
         ∙ (let a = take-append_seam args (drop (length args) f) in λ i. a i ++ (replicate l Nil ++ behind i))
 
 pub returns : goal.returns
-returns c = laid c.args.frame.now c.args.arguments.now c.copy-from-slice.new.self c.clear.new.cells c.args.locals c.requires c.copy-from-slice.ensures.after c.clear.ensures
+returns c = laid c.args.frame.now c.args.arguments.now c.copy_from_slice.new.self c.clear.new.cells c.args.locals c.requires c.copy_from_slice.ensures.after c.clear.ensures

@@ -13,4 +13,4 @@ whole xs ys low h v r l s e =
     ap (put_mid low (length xs - low) xs) (e ∙ cond-true r _ _ (s ∙ lt-ltb _ _ lt)) ∙ set_mid_at low (length xs - low) h xs v lt
 
 pub returns : goal.returns
-returns c = whole c.args.frame.now _ c.args.base c.args.h c.args.v _ c.requires c.push-working.ensures.said c.push-working.ensures.cells
+returns c = whole c.args.frame.now _ c.args.base c.args.h c.args.v _ c.requires c.push_working.ensures.said c.push_working.ensures.cells

@@ -8,6 +8,6 @@ pub returns : goal.returns
 returns c = (
   c.new.result,
   refl,
-  c.new.ensures ∙ low_of c.cast-signed.result c.cast-unsigned.result c.cast-signed.ensures
-      ∙ ap (λ (u : ℕ). signed31 (u % 2147483648)) (c.cast-unsigned.ensures ∙ ap (of_z w64) (to_z-of_z w64 c.args.n c.ranges.n)),
+  c.new.ensures ∙ low_of c.cast_signed.result c.cast_unsigned.result c.cast_signed.ensures
+      ∙ ap (λ (u : ℕ). signed31 (u % 2147483648)) (c.cast_unsigned.ensures ∙ ap (of_z w64) (to_z-of_z w64 c.args.n c.ranges.n)),
 )

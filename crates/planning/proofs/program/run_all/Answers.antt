@@ -7,6 +7,6 @@ loop-path-init g c = ((λ e. keeps_same (g.H.Host.means c.args.host.now)), none)
 
 pub loop-path-preserved : goal.loop-path-preserved
 loop-path-preserved g c = (
-  (λ e. keeps_on (c.loop-path.invariant.0 e) (c.run-parcel.ensures.kept e)),
+  (λ e. keeps_on (c.loop-path.invariant.0 e) (c.run_parcel.ensures.kept e)),
   more c.loop-path.invariant.1 c.deref-in-loop-path-2.result.now c.in_ok-run_parcel.ensures.handled,
 )

@@ -5,7 +5,7 @@ use Rattle.week_file.proofs.cells.write_value.Goals as goal
 
 pub returns : goal.returns
 returns c =
-    let made = five_made c.args.v c.kind.result c.number.result c.to-be-bytes.result c.kind.ensures c.number.ensures (omega arith) c.to-be-bytes.ensures in
-    let after = c.copy-from-slice.ensures.after in
-    let bytes : c.copy-from-slice.new.self ≡ five_bytes c.args.v = cc in
+    let made = five_made c.args.v c.kind.result c.number.result c.to_be_bytes.result c.kind.ensures c.number.ensures (omega arith) c.to_be_bytes.ensures in
+    let after = c.copy_from_slice.ensures.after in
+    let bytes : c.copy_from_slice.new.self ≡ five_bytes c.args.v = cc in
     search (rules, five_put)

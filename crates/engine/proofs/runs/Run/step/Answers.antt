@@ -6,8 +6,8 @@ use Rattle.engine.proofs.runs.Run.step.Goals as goal
 
 pub returns : goal.returns
 returns g c = record {
-  steps = c.step-once.ensures;
-  on = λ s₀ rs k past held. steps past k (view c.args.self.now) (view c.step-once.new.self) held c.step-once.new.host c.args.frame.now c.step-once.new.frame c.step-once.result c.step-once.ensures;
+  steps = c.step_once.ensures;
+  on = λ s₀ rs k past held. steps past k (view c.args.self.now) (view c.step_once.new.self) held c.step_once.new.host c.args.frame.now c.step_once.new.frame c.step_once.result c.step_once.ensures;
   off = λ run s₀ rs k past held. collects past k run held;
   safe = every_history_is_safe g.H.Host.means g.H.Host.may g.met.H.Host.kept;
   laws = script_laws g.H.Host.means g.H.Host.may;

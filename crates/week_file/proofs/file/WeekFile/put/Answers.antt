@@ -5,15 +5,15 @@ use Rattle.week_file.specs.Files.{accepted}
 use Rattle.week_file.proofs.Writes.{fits, accepted_written}
 use Rattle.week_file.proofs.file.WeekFile.put.Goals as goal
 
-pub write-value-requires : goal.write-value-requires
-write-value-requires c = omega (arith, fits (vec_items c.args.self.now.bytes) c.args.place c.requires, ap length c.deref-mut.ensures.value)
+pub write_value-requires : goal.write_value-requires
+write_value-requires c = omega (arith, fits (vec_items c.args.self.now.bytes) c.args.place c.requires, ap length c.deref_mut.ensures.value)
 
 pub invariant-of-self : goal.invariant-of-self
 invariant-of-self c =
     let b = vec_items c.args.self.now.bytes in
-    let same = with_items_is c.args.self.now.bytes c.write-value.new.bytes (omega arith) ∙ c.write-value.ensures ∙ ap (λ l. written l c.args.place c.args.v) c.deref-mut.ensures.value in
+    let same = with_items_is c.args.self.now.bytes c.write_value.new.bytes (omega arith) ∙ c.write_value.ensures ∙ ap (λ l. written l c.args.place c.args.v) c.deref_mut.ensures.value in
     (c.args.self.now.known ∙ sym (ap accepted same ∙ accepted_written b c.args.place c.args.v c.requires), tt)
 
 pub returns : goal.returns
 returns c =
-    with_items_is c.args.self.now.bytes c.write-value.new.bytes (omega arith) ∙ c.write-value.ensures ∙ ap (λ l. written l c.args.place c.args.v) c.deref-mut.ensures.value
+    with_items_is c.args.self.now.bytes c.write_value.new.bytes (omega arith) ∙ c.write_value.ensures ∙ ap (λ l. written l c.args.place c.args.v) c.deref_mut.ensures.value

@@ -22,5 +22,5 @@ returns c =
 pub returns-in_err-place : goal.returns-in_err-place
 returns-in_err-place c =
     let b = vec_items c.args.self.now.bytes in
-    let p = err_from_is_err_and c.from-residual.result c.from-residual.ensures.1 in
+    let p = err_from_is_err_and c.from_residual.result c.from_residual.ensures.1 in
     p.1 ∙ ap Err p.2 ∙ ap (raw_by b) c.in_err-place.ensures

@@ -28,7 +28,7 @@ pub returns-in_err-place : goal.returns-in_err-place
 returns-in_err-place c =
     let b = vec_items c.args.self.now.bytes in
     let w = c.args.row in
-    let p = err_from_is_err_and c.from-residual.result c.from-residual.ensures.1 in
+    let p = err_from_is_err_and c.from_residual.result c.from_residual.ensures.1 in
     let m = missing (start_of b w) (count_of b w) c.args.i c.in_err-place.field-0.0 c.in_err-place.ensures in
     record {
       answer = p.1 ∙ ap Err p.2 ∙ not_there (λ (x : Cell). tt) b w c.args.i c.in_err-place.field-0.0 c.in_err-place.ensures;
