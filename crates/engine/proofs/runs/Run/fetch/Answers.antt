@@ -25,14 +25,14 @@ after_is : (c : In-Some) (e : Effect) → e ≡ effect_of c.in-Some.operation c.
     → c.args.self.now.height - e.takes + e.leaves ≡ after (effect_of c.in-Some.operation c.in-Ok.instruction) c.args.self.now.height
 after_is c e q = ap (λ (x : Effect). after x c.args.self.now.height) q
 
-pub sub_after : needs-of.sub_after
-sub_after c =
-    let d = (needs-of.at.overflow-sub-after c).In-Some in
+pub overflow_sub-after : needs-of.overflow_sub-after
+overflow_sub-after c =
+    let d = (needs-of.at.overflow_sub-after c).In-Some in
     subst (λ (e : Effect). e.takes ≤ c.args.self.now.height) (sym c.effect-effect.ensures) (need (c.args.self.now.ready c.requires) (stands d))
 
-pub add_after : needs-of.add_after
-add_after c =
-    let d = (needs-of.at.overflow-add-after c).In-Some in
+pub overflow_add-after : needs-of.overflow_add-after
+overflow_add-after c =
+    let d = (needs-of.at.overflow_add-after c).In-Some in
     let w = within (c.args.self.now.ready c.requires) (stands d) in
     let e = after_is d c.effect-effect.result c.effect-effect.ensures in
     let slots : c.args.self.now.parcel.layout.slots < 256 = search rules in

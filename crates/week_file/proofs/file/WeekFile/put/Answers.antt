@@ -8,11 +8,11 @@ use Rattle.week_file.proofs.file.WeekFile.put.Goals as goal
 pub write_value-requires : goal.write_value-requires
 write_value-requires c = omega (arith, fits (vec_items c.args.self.now.bytes) c.args.place c.requires, ap length c.deref_mut.ensures.value)
 
-pub invariant-of-self : goal.invariant-of-self
-invariant-of-self c =
+pub invariant_of-self : goal.invariant_of-self
+invariant_of-self c =
     let b = vec_items c.args.self.now.bytes in
     let same = with_items_is c.args.self.now.bytes c.write_value.new.bytes (omega arith) ∙ c.write_value.ensures ∙ ap (λ l. written l c.args.place c.args.v) c.deref_mut.ensures.value in
-    (c.args.self.now.known ∙ sym (ap accepted same ∙ accepted_written b c.args.place c.args.v c.requires), tt)
+    record { known = c.args.self.now.known ∙ sym (ap accepted same ∙ accepted_written b c.args.place c.args.v c.requires) }
 
 pub returns : goal.returns
 returns c =
