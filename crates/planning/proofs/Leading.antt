@@ -62,7 +62,11 @@ module _ {S : Type 0} (means : S → Meaning) (may : S → Sent → Value → S 
   pub kept : Lawful means may → (t : Bool) (s₀ s : S) (run : Running) → Led means may t s₀ s run → t ≡ false → KeepsTrusted (means s₀) (means s)
   kept law t s₀ s run l e =
       let safe = every_history_is_safe means may law s₀ s (Some run ∷ []) l.past in
-      record { marks = (alike law l.past).marks; variables = safe.variables (l.untrusted e); bindings = safe.bindings (l.untrusted e) }
+      record { variables = safe.variables (l.untrusted e); bindings = safe.bindings (l.untrusted e) }
+
+  -- what was led to has the marks that the host began with
+  pub marks_kept : Lawful means may → (t : Bool) (s₀ s : S) (run : Running) → Led means may t s₀ s run → marks_of (means s) ≡ marks_of (means s₀)
+  marks_kept law t s₀ s run l = (alike law l.past).marks
 
   -- a step leaves the parcel
   same_parcel : (run : Running) (o : Way) → (moved run o).parts ≡ run.parts
@@ -133,12 +137,11 @@ made_so P Q (Err e) k p = p
 
 -- nothing happened
 pub keeps_same : (m : Meaning) → KeepsTrusted m m
-keeps_same m = record { marks = refl; variables = λ i e. refl; bindings = λ i e. refl }
+keeps_same m = record { variables = λ i e. refl; bindings = λ i e. refl }
 
 -- one after the other
-pub keeps_on : {m n o : Meaning} → KeepsTrusted m n → KeepsTrusted n o → KeepsTrusted m o
-keeps_on x y = record {
-  marks = y.marks ∙ x.marks;
-  variables = λ i e. y.variables i (ap (λ (k : Marks). marked k.variables i) x.marks ∙ e) ∙ x.variables i e;
-  bindings = λ i e. y.bindings i (ap (λ (k : Marks). marked k.bindings i) x.marks ∙ e) ∙ x.bindings i e;
+pub keeps_on : {m n o : Meaning} → marks_of n ≡ marks_of m → KeepsTrusted m n → KeepsTrusted n o → KeepsTrusted m o
+keeps_on e x y = record {
+  variables = λ i q. y.variables i (ap (λ (k : Marks). marked k.variables i) e ∙ q) ∙ x.variables i q;
+  bindings = λ i q. y.bindings i (ap (λ (k : Marks). marked k.bindings i) e ∙ q) ∙ x.bindings i q;
 }

@@ -2,6 +2,7 @@
 ghost use Rattle.std.specs.Prelude.{◌≡◌, false, length, IfOk, None, OnOk};
 ghost use Rattle.week_file.specs.Files.{why_refused};
 ghost use Rattle.planning.specs.Commands.{texts_of, Sensible};
+ghost use Rattle.hosts.specs.Meaning.{marks_of};
 ghost use Rattle.planning.specs.Keeping.{KeepsTrusted};
 ghost use Rattle.planning.specs.Turns.{InTurn};
 
@@ -45,6 +46,7 @@ fn run_all<H: Host>(
     paths: &[String],
 ) -> anyhow::Result<()>
     ensures kept { plan.now.trusted ≡ false → KeepsTrusted (H.means host.old) (H.means host.new) }
+    ensures marks { marks_of (H.means host.new) ≡ marks_of (H.means host.old) }
     ensures handled { OnOk result (InTurn H.means H.may plan.now host.old (length paths.now) host.new) }
 {
     for path in paths {

@@ -124,6 +124,7 @@ fn play<H: Host>(
     frame: &mut [Value],
 ) -> io::Result<Outcome>
     ensures kept { plan.now.trusted ≡ false → KeepsTrusted (H.means host.old) (H.means host.new) }
+    ensures marks { marks_of (H.means host.new) ≡ marks_of (H.means host.old) }
     ensures outcome { IfOk result (λ o. Played H.means H.may (opened (H.means host.old) plan.now.trusted bytes.now plan.now.arguments.items frame.old (replicate 2048 0) (replicate 2048 0) empty) plan.now.steps host.old o host.new frame.new) }
 {
     let mut heights = [0u8; 2048];
@@ -152,6 +153,7 @@ pub fn run_parcel<H: Host>(
     bytes: &[u8],
 ) -> io::Result<()>
     ensures kept { plan.now.trusted ≡ false → KeepsTrusted (H.means host.old) (H.means host.new) }
+    ensures marks { marks_of (H.means host.new) ≡ marks_of (H.means host.old) }
     ensures handled { OnOk result (Handled H.means H.may plan.now bytes.now host.old host.new) }
 {
     let verdict = verdict_of(host, bytes, plan.trusted);
