@@ -2,6 +2,7 @@
 use crate::drafts::{Draft, Entry, FOUR_SLOTS, parcel_bytes};
 use checker::check;
 use std::alloc::{AllocError, Global};
+use std::process::Abort;
 use std::test::*;
 use values::Fault;
 use week_file::WeekFile;
@@ -45,48 +46,53 @@ impl Bench {
     }
 
     // Bytes, untrusted, and what is to be found.
-    pub fn bytes(&self, bytes: &[u8], want: Found) -> Result<(), Fail> {
-        assert_eq!(self.finds(bytes, false), want);
+    pub fn bytes(&self, rt: &impl Abort, bytes: &[u8], want: Found) -> Result<(), Fail> {
+        assert_eq!(rt; self.finds(bytes, false), want);
         Ok(())
     }
 
     // An untrusted draft and what is to be found.
-    pub fn draft(&self, draft: Draft, want: Found) -> Result<(), Fail> {
-        self.bytes(&draft.bytes(self.heap)?, want)
+    pub fn draft(&self, rt: &impl Abort, draft: Draft, want: Found) -> Result<(), Fail> {
+        self.bytes(rt, &draft.bytes(self.heap)?, want)
     }
 
     // Drafts, trusted or not, and what is to be found of each.
-    fn judged(&self, cases: &[(Draft, Found)], trusted: bool) -> Result<(), Fail> {
+    fn judged(&self, rt: &impl Abort, cases: &[(Draft, Found)], trusted: bool) -> Result<(), Fail> {
         for (k, case) in cases.iter().enumerate() {
             let (draft, want) = *case;
             let bytes = draft.bytes(self.heap)?;
-            assert_eq!(self.finds(&bytes, trusted), want, "case {k}");
+            assert_eq!(rt; self.finds(&bytes, trusted), want, "case {k}");
         }
         Ok(())
     }
 
     // Untrusted drafts.
-    pub fn drafts(&self, cases: &[(Draft, Found)]) -> Result<(), Fail> {
-        self.judged(cases, false)
+    pub fn drafts(&self, rt: &impl Abort, cases: &[(Draft, Found)]) -> Result<(), Fail> {
+        self.judged(rt, cases, false)
     }
 
     // Trusted drafts.
-    pub fn trusted(&self, cases: &[(Draft, Found)]) -> Result<(), Fail> {
-        self.judged(cases, true)
+    pub fn trusted(&self, rt: &impl Abort, cases: &[(Draft, Found)]) -> Result<(), Fail> {
+        self.judged(rt, cases, true)
     }
 
     // Codes as untrusted methods with 4 slots and these literals.
-    pub fn codes_with(&self, literals: &[Entry], cases: &[(&[u8], Found)]) -> Result<(), Fail> {
+    pub fn codes_with(
+        &self,
+        rt: &impl Abort,
+        literals: &[Entry],
+        cases: &[(&[u8], Found)],
+    ) -> Result<(), Fail> {
         for (k, case) in cases.iter().enumerate() {
             let (code, want) = *case;
             let bytes = parcel_bytes(self.heap, 0, FOUR_SLOTS, literals, code)?;
-            assert_eq!(self.finds(&bytes, false), want, "case {k}");
+            assert_eq!(rt; self.finds(&bytes, false), want, "case {k}");
         }
         Ok(())
     }
 
     // The same without literals.
-    pub fn codes(&self, cases: &[(&[u8], Found)]) -> Result<(), Fail> {
-        self.codes_with(&[], cases)
+    pub fn codes(&self, rt: &impl Abort, cases: &[(&[u8], Found)]) -> Result<(), Fail> {
+        self.codes_with(rt, &[], cases)
     }
 }

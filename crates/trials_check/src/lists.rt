@@ -15,14 +15,14 @@ struct Left<'a> {
 }
 
 impl Left<'_> {
-    fn expect(self, bench: &Bench) -> Result<(), Fail> {
+    fn expect(self, rt: &impl Abort, bench: &Bench) -> Result<(), Fail> {
         let mut heights = [7; 5];
         let mut waiting = [9; 4];
         let bytes = self.draft.bytes(bench.heap)?;
         let answer = check(&bench.host, &bytes, false, &mut heights, &mut waiting);
-        assert_eq!(in_numbers(answer), self.want);
-        assert_eq!(heights, self.heights);
-        assert_eq!(waiting, self.waiting);
+        assert_eq!(rt; in_numbers(answer), self.want);
+        assert_eq!(rt; heights, self.heights);
+        assert_eq!(rt; waiting, self.waiting);
         Ok(())
     }
 }
@@ -62,7 +62,7 @@ fn accepted(rt: HostRuntime) -> Result<(), Fail> {
             [0, 0, 0, 0],
         ),
     ] {
-        case.expect(&bench)?;
+        case.expect(&rt, &bench)?;
     }
     Ok(())
 }
@@ -126,7 +126,7 @@ fn refused_late(rt: HostRuntime) -> Result<(), Fail> {
             [0, 0, 9, 9],
         ),
     ] {
-        case.expect(&bench)?;
+        case.expect(&rt, &bench)?;
     }
     Ok(())
 }
@@ -145,7 +145,7 @@ fn refused_by_flags(rt: HostRuntime) -> Result<(), Fail> {
             heights: [255, 255, 7, 7, 7],
             waiting: [0, 0, 9, 9],
         };
-        left.expect(&bench)?;
+        left.expect(&rt, &bench)?;
     }
     Ok(())
 }

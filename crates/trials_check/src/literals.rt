@@ -3,11 +3,12 @@ use crate::bench::{Bench, Found};
 use crate::drafts::{
     BINDING_0, BINDING_1, BINDING_2, BLOCK, Entry, KEYWORD, NIL, OBJECT, UNARY, with_literals,
 };
+use std::process::Abort;
 use std::test::*;
 
 // Literals of a method that turns for ever, and what is to be found.
-fn expect(bench: &Bench, literals: &[Entry], want: Found) -> Result<(), Fail> {
-    bench.drafts(&[(with_literals(literals, &[40, 2]), want)])
+fn expect(rt: &impl Abort, bench: &Bench, literals: &[Entry], want: Found) -> Result<(), Fail> {
+    bench.drafts(rt, &[(with_literals(literals, &[40, 2]), want)])
 }
 
 #[test]
@@ -23,9 +24,10 @@ fn every_kind(rt: HostRuntime) -> Result<(), Fail> {
         [31, 7, 0xFF, 0xFF, 0xFF, 0xFF],
         BINDING_1,
     ] {
-        expect(&bench, &[literal], Ok(0))?;
+        expect(&rt, &bench, &[literal], Ok(0))?;
     }
     expect(
+        &rt,
         &bench,
         &[NIL, OBJECT, BLOCK, UNARY, KEYWORD, BINDING_0],
         Ok(0),
@@ -49,8 +51,8 @@ fn wrong_ones(rt: HostRuntime) -> Result<(), Fail> {
         [1, 8, 0, 0, 0, 0],
         [32, 7, 0, 0, 0, 0],
     ] {
-        expect(&bench, &[literal], Err((9, 0)))?;
-        expect(&bench, &[NIL, BINDING_0, literal, NIL], Err((9, 2)))?;
+        expect(&rt, &bench, &[literal], Err((9, 0)))?;
+        expect(&rt, &bench, &[NIL, BINDING_0, literal, NIL], Err((9, 2)))?;
     }
     Ok(())
 }
@@ -58,9 +60,14 @@ fn wrong_ones(rt: HostRuntime) -> Result<(), Fail> {
 #[test]
 fn bindings_there(rt: HostRuntime) -> Result<(), Fail> {
     let bench = Bench::new(rt.alloc())?;
-    expect(&bench, &[BINDING_2], Err((10, 0)))?;
-    expect(&bench, &[BINDING_0, BINDING_1, BINDING_2], Err((10, 2)))?;
-    expect(&bench, &[[0, 8, 255, 255, 255, 255]], Err((10, 0)))
+    expect(&rt, &bench, &[BINDING_2], Err((10, 0)))?;
+    expect(
+        &rt,
+        &bench,
+        &[BINDING_0, BINDING_1, BINDING_2],
+        Err((10, 2)),
+    )?;
+    expect(&rt, &bench, &[[0, 8, 255, 255, 255, 255]], Err((10, 0)))
 }
 
 // The literals are taken in order, and each is tried by 9 and then by 10.
@@ -68,8 +75,8 @@ fn bindings_there(rt: HostRuntime) -> Result<(), Fail> {
 fn in_order(rt: HostRuntime) -> Result<(), Fail> {
     let bench = Bench::new(rt.alloc())?;
     let wrong = [0, 6, 0, 0, 0, 0];
-    expect(&bench, &[[1, 8, 0, 0, 0, 2]], Err((9, 0)))?;
-    expect(&bench, &[BINDING_2, wrong], Err((10, 0)))?;
-    expect(&bench, &[wrong, BINDING_2], Err((9, 0)))?;
-    expect(&bench, &[NIL, wrong, wrong], Err((9, 1)))
+    expect(&rt, &bench, &[[1, 8, 0, 0, 0, 2]], Err((9, 0)))?;
+    expect(&rt, &bench, &[BINDING_2, wrong], Err((10, 0)))?;
+    expect(&rt, &bench, &[wrong, BINDING_2], Err((9, 0)))?;
+    expect(&rt, &bench, &[NIL, wrong, wrong], Err((9, 1)))
 }

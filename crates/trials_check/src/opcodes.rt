@@ -37,11 +37,14 @@ fn messages(rt: HostRuntime) -> Result<(), Fail> {
         let short = repeated(rt.alloc(), 45, cells, &[message, 0, 51, 0])?;
         let enough = repeated(rt.alloc(), 45, cells + 1, &[message, 0, 51, 0])?;
         let two = repeated(rt.alloc(), 45, cells + 1, &[message, 0, 48, 0, 51, 0])?;
-        bench.codes(&[
-            (&short, Err((21, 2 * cells))),
-            (&enough, Ok(count + 1)),
-            (&two, Err((21, 2 * cells + 6))),
-        ])?;
+        bench.codes(
+            &rt,
+            &[
+                (&short, Err((21, 2 * cells))),
+                (&enough, Ok(count + 1)),
+                (&two, Err((21, 2 * cells + 6))),
+            ],
+        )?;
     }
     assert_eq!(rt; argument_count(25), 0);
     Ok(())
@@ -51,6 +54,7 @@ fn messages(rt: HostRuntime) -> Result<(), Fail> {
 #[test]
 fn selector_heights(rt: HostRuntime) -> Result<(), Fail> {
     Bench::new(rt.alloc())?.codes_with(
+        &rt,
         &[KEYWORD],
         &[
             (&[45, 0, 45, 0, 28, 2, 51, 0], Err((21, 4))),
@@ -64,21 +68,24 @@ fn selector_heights(rt: HostRuntime) -> Result<(), Fail> {
 // What every other opcode needs, and what it leaves: a pop and a return follow.
 #[test]
 fn effects(rt: HostRuntime) -> Result<(), Fail> {
-    Bench::new(rt.alloc())?.codes(&[
-        (&[36, 0, 51, 0], Err((15, 0))),
-        (&[39, 0, 51, 0], Err((21, 0))),
-        (&[56, 0, 39, 0, 48, 0, 51, 0], Err((21, 6))),
-        (&[48, 0, 40, 2], Err((21, 0))),
-        (&[56, 0, 48, 0, 40, 2], Ok(1)),
-        (&[52, 0, 40, 2], Err((21, 0))),
-        (&[56, 0, 52, 0, 48, 0, 51, 0], Ok(2)),
-        (&[56, 0, 52, 0, 48, 0, 48, 0, 51, 0], Err((21, 8))),
-        (&[42, 0, 40, 2], Err((21, 0))),
-        (&[43, 0, 40, 2], Err((21, 0))),
-        (&[56, 0, 42, 0, 40, 2], Ok(1)),
-        (&[54, 0, 51, 0], Err((21, 2))),
-        (&[35, 0, 51, 0], Ok(1)),
-        (&[44, 0, 51, 0], Ok(1)),
-        (&[45, 0, 51, 0], Ok(1)),
-    ])
+    Bench::new(rt.alloc())?.codes(
+        &rt,
+        &[
+            (&[36, 0, 51, 0], Err((15, 0))),
+            (&[39, 0, 51, 0], Err((21, 0))),
+            (&[56, 0, 39, 0, 48, 0, 51, 0], Err((21, 6))),
+            (&[48, 0, 40, 2], Err((21, 0))),
+            (&[56, 0, 48, 0, 40, 2], Ok(1)),
+            (&[52, 0, 40, 2], Err((21, 0))),
+            (&[56, 0, 52, 0, 48, 0, 51, 0], Ok(2)),
+            (&[56, 0, 52, 0, 48, 0, 48, 0, 51, 0], Err((21, 8))),
+            (&[42, 0, 40, 2], Err((21, 0))),
+            (&[43, 0, 40, 2], Err((21, 0))),
+            (&[56, 0, 42, 0, 40, 2], Ok(1)),
+            (&[54, 0, 51, 0], Err((21, 2))),
+            (&[35, 0, 51, 0], Ok(1)),
+            (&[44, 0, 51, 0], Ok(1)),
+            (&[45, 0, 51, 0], Ok(1)),
+        ],
+    )
 }

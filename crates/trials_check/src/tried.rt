@@ -25,7 +25,7 @@ const CASES: [(&[u8], Found); 15] = [
 
 #[test]
 fn by_the_check(rt: HostRuntime) -> Result<(), Fail> {
-    Bench::new(rt.alloc())?.codes(&CASES)
+    Bench::new(rt.alloc())?.codes(&rt, &CASES)
 }
 
 #[test]
