@@ -1,5 +1,5 @@
 -- What readiness gives at the place of a live run.
-use Rattle.std.proofs.Common.{◌≡◌, ℕ, ◌+◌, ◌*◌, ◌<◌, ◌≤◌, Bool, true, false, List, length, replicate, Some, None, Ok, Err, Option, sym, refl, ap, ◌∙◌, subst, arith}
+use Rattle.std.proofs.Common.{◌≡◌, ℕ, ◌+◌, ◌*◌, ◌≤◌, false, List, length, replicate, Some, None, Ok, Err, sym, ap, ◌∙◌, subst, arith}
 use mathlib.Core.Bool.{Bool-set}
 use mathlib.Core.HLevel.{⊥_prop}
 use mathlib.Core.Logic.{∥∥₁_elim, ∥∥₁_map}
@@ -16,7 +16,7 @@ use Rattle.stages.specs.Encoding.{lands_wrong}
 use Rattle.stages.specs.Operands.{operand_wrong}
 use Rattle.paths.specs.Paths.{Stands, Among, successors}
 use Rattle.paths.proofs.Orders.{same_read}
-use Rattle.histories.specs.Ready.{unmarked, Ready}
+use Rattle.histories.specs.Ready.{Ready}
 use Rattle.histories.proofs.Readiness.{here, path_low, ready_on}
 
 module _ {p : Parts} {v b place h : ℕ} (t : ∥ Ready p v b place h ∥₁) where

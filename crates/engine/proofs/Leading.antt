@@ -1,5 +1,5 @@
 -- Where a turn leads.
-use Rattle.std.proofs.Common.{◌≡◌, ℕ, List, sym, refl, ap, ◌∙◌, subst}
+use Rattle.std.proofs.Common.{◌≡◌, ℕ, List, subst}
 use Rattle.values.specs.declared.kinds.Value.{Value}
 use Rattle.hosts.specs.Meaning.{Meaning, Sent}
 use Rattle.parcels.specs.Opcodes.{effect_of, after, flow_of, successors_of}

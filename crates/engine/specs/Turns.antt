@@ -1,5 +1,5 @@
 -- An instruction to be performed: what it may rely on, and what comes of it.
-use Rattle.std.specs.Prelude.{◌≡◌, ℕ, ◌+◌, ◌*◌, ◌≤◌, Bool, false, not, ◌&&◌, List, [], ◌∷◌, length, Some, None, Ok, Err, Option, Result, ◌==◌, nat_lt, slice_index_or}
+use Rattle.std.specs.Prelude.{◌≡◌, ℕ, ◌+◌, ◌*◌, ◌≤◌, false, not, ◌&&◌, List, [], ◌∷◌, length, Some, None, Ok, Err, Option, Result, ◌==◌, nat_lt, slice_index_or}
 use Rattle.values.specs.Order.{Test, test}
 use Rattle.values.specs.declared.faults.Rule.TheVariants.{RunNotLive, CountsDiffer, StepFrameShort}
 use Rattle.values.specs.Faults.{fault}

@@ -1,5 +1,5 @@
 -- The laws of the script of every operation.
-use Rattle.std.proofs.Common.{ℕ, ◌/◌, List, refl}
+use Rattle.std.proofs.Common.{ℕ, ◌/◌, refl}
 use Rattle.values.specs.declared.kinds.Value.{Value}
 use Rattle.hosts.specs.Meaning.{Meaning, Sent}
 use Rattle.parcels.specs.Literals.{literal}

@@ -1,30 +1,24 @@
 -- What holds of the script of each operation.
-use Rattle.std.proofs.Common.{◌≡◌, ℕ, zero, suc, ◌+◌, ◌-◌, ◌*◌, ◌/◌, ◌%◌, ◌<◌, ◌≤◌, Bool, true, false, cond, not, eqb, ltb, leb, ◌⊎◌, List, [], ◌∷◌, length, get_or, ℤ, pos, is_some, Some, None, Option, sym, refl, ap, ◌∙◌, subst, inl, inr, arith}
-use Rattle.std.specs.Option.{option_map}
-use Rattle.std.proofs.lemmas.Bool.{leb-false, ltb-false, lt-ltb, cases_lt, eqb-true, ne_eqb, eq-eqb}
-use Rattle.values.specs.Small.{in_range, small_if, small}
-use Rattle.values.specs.declared.small.SmallInteger.{SmallInteger}
+use Rattle.std.proofs.Common.{◌≡◌, ℕ, ◌+◌, ◌-◌, ◌/◌, Bool, true, false, cond, List, [], ◌∷◌, get_or, Some, None, Option, refl, inl, inr, arith}
 use Rattle.values.specs.declared.kinds.Value.{Value}
 use Rattle.values.specs.declared.kinds.Value.TheVariants.{Nil, True, False, Integer, Object, Block, Closure}
 use Rattle.hosts.specs.Meaning.{Meaning, Marks}
-use Rattle.parcels.specs.Literals.{entry, literal}
-use Rattle.parcels.specs.Layouts.{limit_of}
-use Rattle.parcels.specs.Opcodes.{count_of, effect_of, after, flow_of, landing_of, successors_of}
+use Rattle.parcels.specs.Literals.{literal}
+use Rattle.parcels.specs.Opcodes.{effect_of, after, flow_of, landing_of, successors_of}
 use Rattle.parcels.specs.Parts.{Parts}
 use Rattle.parcels.specs.declared.literals.Literal.{Literal}
 use Rattle.parcels.specs.declared.literals.Literal.TheVariants.{Constant, Selector, Binding}
-use Rattle.parcels.specs.declared.opcodes.Direction.TheVariants.{Back, Forward}
+use Rattle.parcels.specs.declared.opcodes.Direction.TheVariants.{Forward}
 use Rattle.parcels.specs.declared.opcodes.Source.TheVariants as source
 use Rattle.parcels.specs.declared.opcodes.Target.TheVariants as target
 use Rattle.parcels.specs.declared.opcodes.Operation.{Operation}
 use Rattle.parcels.specs.declared.opcodes.Operation.TheVariants.{Send, SendSelector, Push, Store, Jump, Branch, Pop, Duplicate, Close, End, Line}
 use Rattle.parcels.specs.declared.reading.Instruction.{Instruction}
-use Rattle.stages.specs.Operands.{selects, binds, constant, operand_wrong}
-use Rattle.stages.specs.Encoding.{names_trusted, stores_trusted, lands_wrong}
+use Rattle.stages.specs.Encoding.{names_trusted, stores_trusted}
 use Rattle.paths.specs.Paths.{Among}
-use Rattle.scripts.specs.Laws.{Leads, Quiet, Once, LacksBlock, WritesOpen}
-use Rattle.scripts.specs.Running.{ground_of, base_of, cells_of}
-use Rattle.scripts.specs.Scripts.{Script, read_cell, write_cell, write_binding, send, go, stuck, no_block, must_be_boolean, given, selector_of, binding_of, constant_of, special, integer, choose, closure, script_of, Within}
+use Rattle.scripts.specs.Laws.{Leads, Once, LacksBlock, WritesOpen}
+use Rattle.scripts.specs.Running.{ground_of, base_of}
+use Rattle.scripts.specs.Scripts.{Script, read_cell, write_cell, write_binding, send, go, stuck, no_block, must_be_boolean, given, selector_of, binding_of, constant_of, special, integer, choose, closure, script_of}
 
 -- a property of scripts, through the ways in which a script is chosen
 pub chosen : (F : Script → Type 0) (v : Value) {t f o : Script} → F t → F f → F o → F (choose v t f o)

@@ -1,26 +1,24 @@
 -- From acceptance to readiness, and from readiness to the next script.
-use Rattle.std.proofs.Common.{◌≡◌, ℕ, zero, suc, ◌+◌, ◌-◌, ◌*◌, ◌%◌, ◌<◌, ◌≤◌, Bool, true, false, cond, eqb, ◌⊎◌, List, [], ◌∷◌, length, drop, replicate, Some, None, Ok, Option, sym, refl, ap, ◌∙◌, subst, inl, inr, arith, length-drop, length-take}
+use Rattle.std.proofs.Common.{◌≡◌, ℕ, ◌+◌, ◌*◌, ◌<◌, ◌≤◌, Bool, true, false, cond, eqb, List, length, drop, Some, sym, refl, ap, ◌∙◌, subst, inl, inr, arith, length-drop, length-take}
 use lib.ListN.{length-replicate}
 use Rattle.std.proofs.lemmas.Bool.{cases_lt}
 use Rattle.hosts.specs.Meaning.{Marks}
 use Rattle.parcels.specs.Layouts.{limit_of, kind, literal_count, method_layout, block_layout}
-use Rattle.parcels.specs.Literals.{literal}
 use Rattle.parcels.specs.Opcodes.{operation_of, effect_of, after, flow_of}
 use Rattle.parcels.specs.Parts.{Parts}
-use Rattle.parcels.specs.Reading.{Reading, read_at, starts_at}
-use Rattle.parcels.specs.declared.literals.Literal.{Literal}
+use Rattle.parcels.specs.Reading.{read_at, starts_at}
 use Rattle.parcels.specs.declared.literals.Literal.TheVariants.{Binding}
 use Rattle.parcels.specs.declared.opcodes.Operation.{Operation}
 use Rattle.parcels.specs.declared.reading.Instruction.{Instruction}
 use Rattle.stages.specs.Encoding.{setting, stores_trusted}
 use Rattle.stages.specs.Operands.{operand_wrong}
 use Rattle.paths.specs.Paths.{Stands, Among, successors, Path, begins, goes_on, KeepsHeights}
-use Rattle.paths.specs.Rules.{KeepsHeader, AfterBlock, KeepsRules, KeepsEncoding}
+use Rattle.paths.specs.Rules.{KeepsRules}
 use Rattle.paths.specs.Verdicts.{header, parcel, Keeps}
 use Rattle.paths.proofs.Demands.{start_even, successor_is}
 use Rattle.paths.proofs.Orders.{same_read}
 use Rattle.paths.proofs.Readings.{spans, next_starts, first_starts}
-use Rattle.scripts.specs.Running.{Running, script_read, script_for, next_script, ground_of, cells_of}
+use Rattle.scripts.specs.Running.{script_read, script_for, ground_of, cells_of}
 use Rattle.scripts.specs.Scripts.{Script, script_of, Within}
 use Rattle.histories.specs.Ready.{unmarked, Ready}
 use Rattle.histories.proofs.Bounds.{literal_there, stays_within}

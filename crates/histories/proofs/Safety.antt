@@ -1,40 +1,36 @@
 -- Every history is safe.
-use Rattle.std.proofs.Common.{◌≡◌, ℕ, zero, suc, ◌+◌, ◌-◌, ◌*◌, ◌<◌, ◌≤◌, Bool, true, false, cond, not, ◌&&◌, eqb, ltb, ◌⊎◌, List, [], ◌∷◌, ◌++◌, map, length, get_or, set, is_ok, Some, None, Ok, Err, Option, Result, unwrap_or, sym, refl, ap, ◌∙◌, subst, inl, inr, arith}
-use Rattle.std.specs.Option.{option_map}
-use Rattle.std.specs.List.{slice_get}
-use Rattle.std.proofs.lemmas.List.{get_or-set_same, get_or-set_other, get_or_past, get_or_append_left, get_or-append_right}
-use Rattle.std.proofs.lemmas.Bool.{cases_eq, cases_lt, cases_order, eq-eqb, le-ltb}
+use Rattle.std.proofs.Common.{◌≡◌, ℕ, zero, suc, ◌+◌, ◌*◌, ◌<◌, ◌≤◌, Bool, true, false, cond, not, ◌&&◌, eqb, ltb, ◌⊎◌, List, [], ◌∷◌, ◌++◌, map, length, get_or, set, is_ok, Some, None, Ok, Err, Option, Result, sym, refl, ap, ◌∙◌, subst, inl, inr, arith}
+use Rattle.std.proofs.lemmas.List.{get_or-set_same, get_or-set_other, get_or_past}
+use Rattle.std.proofs.lemmas.Bool.{cases_eq, cases_lt, eq-eqb, le-ltb}
 use Rattle.values.specs.Order.{first}
 use Rattle.values.specs.declared.faults.Fault.{Fault}
 use Rattle.values.specs.declared.kinds.Value.{Value}
-use Rattle.values.specs.declared.kinds.Value.TheVariants.{Nil, Block}
 use Rattle.hosts.specs.Meaning.{Cell, Meaning, Sent, Marks, Kept, OpenOnly, marks_of}
 use Rattle.hosts.proofs.Cells.{kept_same}
-use Rattle.parcels.specs.Opcodes.{effect_of, after, flow_of, operation_of, successors_of}
+use Rattle.parcels.specs.Opcodes.{effect_of, after, flow_of, successors_of}
 use Rattle.parcels.specs.Reading.{starts_at}
 use Rattle.parcels.specs.declared.opcodes.Operation.{Operation}
-use Rattle.parcels.specs.declared.opcodes.Operation.TheVariants.{Close}
 use Rattle.parcels.specs.declared.reading.Instruction.{Instruction}
 use Rattle.stages.specs.Encoding.{stores_trusted}
-use Rattle.stages.specs.Check.{Checked, checked}
-use Rattle.paths.specs.Paths.{Stands, Among, successors}
+use Rattle.stages.specs.Check.{checked}
+use Rattle.paths.specs.Paths.{Stands, Among}
 use Rattle.paths.specs.Verdicts.{parcel, Keeps}
-use Rattle.paths.proofs.Orders.{same_read, first_none}
+use Rattle.paths.proofs.Orders.{first_none}
 use Rattle.paths.proofs.Verdict.{every_verdict_means}
 use Rattle.stages.proofs.Trust.{marks_length}
-use Rattle.scripts.specs.Laws.{marked, Like, Leads, Once, LacksBlock, WritesOpen}
-use Rattle.scripts.specs.Running.{Running, Answer, at, moved, Stepping, Steps, step_tests, is_live, cells_of, base_of, ground_of, next_script}
+use Rattle.scripts.specs.Laws.{marked, Like, Once, LacksBlock}
+use Rattle.scripts.specs.Running.{Running, Answer, at, moved, Stepping, Steps, step_tests, is_live, cells_of, ground_of, next_script}
 use Rattle.scripts.specs.Scripts.{Script, script_of, Outcome, goes, ends, stops, sent_by, cell_value}
 use Rattle.scripts.specs.Scripts as scripts
 use Rattle.scripts.specs.declared.states.State.{State}
 use Rattle.scripts.specs.declared.states.State.TheVariants.{Live, Ended, Stopped}
 use Rattle.scripts.specs.declared.states.Stop.{Stop}
 use Rattle.scripts.specs.declared.states.Stop.TheVariants.{NotUnderstood, NoBlock}
-use Rattle.scripts.proofs.Hosts.{kept_like, kept_trans, like_trans, like_same}
-use Rattle.scripts.proofs.Following.{leads, because, StopsBecause, like, kept}
+use Rattle.scripts.proofs.Hosts.{kept_trans, like_trans, like_same}
+use Rattle.scripts.proofs.Following.{leads, because, like, kept}
 use Rattle.histories.specs.Opening.{Opened, open_tests, admitted, judged, opened, empty}
 use Rattle.histories.specs.Ready.{Ready}
-use Rattle.histories.specs.Histories.{Runs, Holds, Iff, Placed, MeetsNoBlock, Goes_on, History, new, taken, opens, steps, collects, Untrusted, Safe, EveryHistoryIsSafe}
+use Rattle.histories.specs.Histories.{Runs, Holds, Placed, MeetsNoBlock, Goes_on, History, new, taken, opens, steps, collects, Untrusted, Safe, EveryHistoryIsSafe}
 use Rattle.histories.proofs.Operations.{leads_to, at_most_once, writes_open, lacks, lacks_back}
 use Rattle.histories.proofs.Readiness.{accepted_ready, accepted_open, path_starts, here, script_is, within, ready_on}
 

@@ -1,5 +1,5 @@
 -- Lists of calls on one host, and what holds after every one of them.
-use Rattle.std.specs.Prelude.{◌≡◌, ℕ, ◌+◌, ◌-◌, ◌<◌, ◌≤◌, Bool, true, false, List, [], ◌∷◌, ◌++◌, map, length, is_ok, Some, None, Ok, Err, Option, Result, ◌≢◌, slice_index_or, slice_set}
+use Rattle.std.specs.Prelude.{◌≡◌, ℕ, ◌+◌, ◌-◌, ◌≤◌, Bool, true, false, List, [], ◌∷◌, ◌++◌, length, is_ok, Some, None, Ok, Option, ◌≢◌, slice_index_or, slice_set}
 use Rattle.values.specs.declared.kinds.Value.{Value}
 use Rattle.values.specs.declared.kinds.Value.TheVariants.{Nil, Block}
 use Rattle.hosts.specs.Meaning.{Meaning, Sent, marks_of}
@@ -8,12 +8,11 @@ use Rattle.parcels.specs.declared.opcodes.Operation.TheVariants.{Close}
 use Rattle.parcels.specs.declared.reading.Instruction.{Instruction}
 use Rattle.paths.specs.Paths.{Path, Stands}
 use Rattle.scripts.specs.Laws.{marked}
-use Rattle.scripts.specs.Running.{Running, Answer, Steps, cells_of, base_of, next_script, value_in}
+use Rattle.scripts.specs.Running.{Running, Answer, Steps, cells_of, base_of, next_script}
 use Rattle.scripts.specs.Scripts.{Within, sent_by, cell_value}
-use Rattle.scripts.specs.declared.states.State.{State}
 use Rattle.scripts.specs.declared.states.State.TheVariants.{Live, Stopped}
 use Rattle.scripts.specs.declared.states.Stop.TheVariants.{NotUnderstood, NoBlock}
-use Rattle.histories.specs.Opening.{Opened, opened, empty}
+use Rattle.histories.specs.Opening.{opened, empty}
 
 -- the runs that the callers hold, by number; one that is gone leaves its number empty
 abbrev pub Runs : Type 0

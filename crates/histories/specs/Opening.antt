@@ -1,5 +1,5 @@
 -- What opening a parcel does.
-use Rattle.std.specs.Prelude.{ℕ, ◌+◌, Bool, not, List, [], ◌∷◌, ◌++◌, length, drop, replicate, Some, None, Ok, Err, Option, Result, ◌==◌, nat_lt}
+use Rattle.std.specs.Prelude.{ℕ, Bool, not, List, [], ◌∷◌, ◌++◌, length, drop, replicate, Some, None, Ok, Err, Option, Result, ◌==◌, nat_lt}
 use Rattle.values.specs.Order.{Test, test, first}
 use Rattle.values.specs.declared.faults.Fault.{Fault}
 use Rattle.values.specs.declared.faults.Rule.TheVariants.{ArgumentsDiffer, FrameShort}
@@ -9,7 +9,7 @@ use Rattle.hosts.specs.Meaning.{Meaning, marks_of}
 use Rattle.parcels.specs.Parts.{Parts}
 use Rattle.parcels.specs.declared.layout.CodeKind.TheVariants.{Method}
 use Rattle.parcels.specs.declared.opcodes.Ending.TheVariants.{Return}
-use Rattle.stages.specs.Check.{Checked, checked}
+use Rattle.stages.specs.Check.{checked}
 use Rattle.paths.specs.Verdicts.{parcel}
 use Rattle.scripts.specs.Running.{Running, cells_of, base_of}
 use Rattle.scripts.specs.declared.states.State.TheVariants.{Live, Ended}

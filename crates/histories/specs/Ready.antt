@@ -1,5 +1,5 @@
 -- What makes the next step of a live run possible, whatever the marks and the trust.
-use Rattle.std.specs.Prelude.{◌≡◌, ℕ, ◌*◌, ◌<◌, ◌≤◌, Bool, true, false, List, length, replicate, Some}
+use Rattle.std.specs.Prelude.{◌≡◌, ℕ, ◌*◌, ◌<◌, ◌≤◌, true, false, length, replicate, Some}
 use Rattle.hosts.specs.Meaning.{Marks}
 use Rattle.parcels.specs.Layouts.{limit_of}
 use Rattle.parcels.specs.Literals.{literal}

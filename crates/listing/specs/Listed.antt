@@ -1,9 +1,9 @@
 -- The verdict on an untrusted parcel over the fixed week file, and the parcels tried.
-use Rattle.std.specs.Prelude.{◌≡◌, ℕ, ◌*◌, ◌/◌, ◌%◌, false, List, [], ◌∷◌, ◌++◌, length, replicate, Ok, Err, Result}
+use Rattle.std.specs.Prelude.{◌≡◌, ℕ, ◌/◌, ◌%◌, false, List, [], ◌∷◌, ◌++◌, length, replicate, Ok, Err, Result}
 use Rattle.values.specs.Faults.{fault}
 use Rattle.values.specs.declared.faults.Fault.{Fault}
 use Rattle.values.specs.declared.faults.Rule.TheVariants.{HeightLow, CodeLeft, HeightsDiffer, LandingWrong, StoreTrusted}
-use Rattle.hosts.specs.Meaning.{Marks, marks_of}
+use Rattle.hosts.specs.Meaning.{marks_of}
 use Rattle.week_file.specs.Files.{week_meaning}
 use Rattle.stages.specs.Check.{checked}
 use Rattle.listing.specs.declared.verdicts.Verdict.{Verdict}

@@ -1,8 +1,8 @@
 -- The six bytes of a literal, read from the part that holds them.
-use Rattle.std.proofs.Common.{◌≡◌, ℕ, ◌+◌, ◌-◌, ◌*◌, ◌<◌, ◌≤◌, ltb, List, length, get_or, take, drop, Option, sym, refl, ap, ◌∙◌, arith, get_or-drop, get_or-take}
+use Rattle.std.proofs.Common.{◌≡◌, ℕ, ◌+◌, ◌-◌, ◌*◌, ◌<◌, ◌≤◌, ltb, List, length, get_or, take, drop, Option, sym, ap, ◌∙◌, arith, get_or-drop, get_or-take}
 use Rattle.std.proofs.lemmas.Bool.{cond-false, le-ltb}
 use Rattle.values.specs.Bytes.{at, be32}
-use Rattle.parcels.specs.Literals.{literal_of, entry, literal}
+use Rattle.parcels.specs.Literals.{literal_of, literal}
 use Rattle.parcels.specs.declared.literals.Literal.{Literal}
 
 -- the w bytes from s on

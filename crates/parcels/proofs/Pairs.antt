@@ -1,8 +1,7 @@
 -- What one pair says of a reading.
-use Rattle.std.proofs.Common.{◌≡◌, ℕ, zero, suc, ◌+◌, ◌-◌, ◌*◌, ◌<◌, ◌≤◌, Bool, true, false, cond, eqb, List, [], ◌∷◌, length, get_or, take, drop, Ok, Err, sym, refl, ap, ◌∙◌, arith, length-drop, take_all, drop-drop}
+use Rattle.std.proofs.Common.{◌≡◌, ℕ, zero, suc, ◌+◌, ◌-◌, ◌*◌, ◌<◌, ◌≤◌, eqb, List, [], ◌∷◌, length, get_or, take, drop, Ok, sym, ap, ◌∙◌, arith, length-drop, take_all, drop-drop}
 use Rattle.std.proofs.lemmas.Bool.{eq-eqb, ne_eqb, cond-true, cond-false}
 use Rattle.parcels.specs.Reading.{reads, reading}
-use Rattle.parcels.specs.declared.reading.Instruction.{Instruction}
 
 -- an extension pair, where one may still come
 pub extends : (n a k : ℕ) (xs : List ℕ) → 0 < n → 2 ≤ length xs → get_or xs 0 0 ≡ 55

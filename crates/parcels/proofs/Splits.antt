@@ -1,9 +1,9 @@
 -- The parts of a parcel, as the slices that lend them.
-use Rattle.std.proofs.Common.{◌≡◌, ℕ, ◌+◌, ◌-◌, ◌*◌, List, length, take, drop, Ok, Result, sym, ap, ◌∙◌, arith, length-drop, take_all}
+use Rattle.std.proofs.Common.{◌≡◌, ℕ, ◌+◌, ◌-◌, ◌*◌, List, length, take, drop, Ok, Result, ap, ◌∙◌, arith, length-drop, take_all}
 use Rattle.values.specs.Order.{and_then}
 use Rattle.values.specs.declared.faults.Fault.{Fault}
 use Rattle.parcels.specs.Layouts.{layout_of}
-use Rattle.parcels.specs.Parts.{Parts, split, parts_of}
+use Rattle.parcels.specs.Parts.{split, parts_of}
 use Rattle.parcels.specs.declared.layout.Layout.{Layout}
 
 pub split_read : (b : List ℕ) (l : Layout) → Ok l ≡ layout_of b

@@ -6,7 +6,6 @@ use Rattle.values.specs.declared.faults.Fault.{Fault}
 use Rattle.values.specs.declared.faults.Rule.TheVariants.{HeaderShort, KindUnknown, LiteralsTooMany, CodeTooLong, LengthWrong, FlagsReserved, LocalsOverSlots}
 use Rattle.parcels.specs.declared.layout.Header.{Header}
 use Rattle.parcels.specs.declared.layout.Layout.{Layout}
-use Rattle.parcels.specs.declared.layout.CodeKind.{CodeKind}
 use Rattle.parcels.specs.declared.layout.CodeKind.TheVariants.{Method, Block}
 
 -- bytes 0 and 1: 0 for a method, 1 for a block

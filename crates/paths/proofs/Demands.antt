@@ -1,8 +1,8 @@
 -- What is asked at a place, and the instruction that stands there.
-use Rattle.std.proofs.Common.{◌≡◌, ℕ, ◌+◌, ◌-◌, ◌*◌, ◌%◌, ◌<◌, ◌≤◌, Bool, true, false, cond, not, ◌&&◌, eqb, ltb, leb, ◌⊎◌, List, [], ◌∷◌, length, get_or, Some, None, Ok, Err, Option, sym, refl, ap, ◌∙◌, subst, inl, inr, arith}
+use Rattle.std.proofs.Common.{◌≡◌, ℕ, ◌+◌, ◌-◌, ◌*◌, ◌%◌, ◌<◌, Bool, true, false, cond, ◌&&◌, leb, ◌⊎◌, List, [], ◌∷◌, length, Some, None, Ok, Err, Option, refl, ap, ◌∙◌, subst, inl, inr, arith}
 use Rattle.std.proofs.lemmas.Bool.{eqb-true, ltb-true}
 use Rattle.parcels.specs.Reading.{Reading, read_at, starts_at}
-use Rattle.parcels.specs.Opcodes.{operation_of, effect_of, flow_of, started, landing_of, successors_of}
+use Rattle.parcels.specs.Opcodes.{operation_of, flow_of, started, landing_of, successors_of}
 use Rattle.parcels.specs.declared.opcodes.Direction.{Direction}
 use Rattle.parcels.specs.declared.opcodes.Direction.TheVariants.{Back, Forward}
 use Rattle.parcels.specs.declared.opcodes.Flow.{Flow}

@@ -1,5 +1,5 @@
 -- The examination finds the heights of the paths, or a rule that a path breaks.
-use Rattle.std.proofs.Common.{◌≡◌, ℕ, zero, suc, ◌+◌, ◌-◌, ◌*◌, ◌/◌, ◌%◌, ◌<◌, ◌≤◌, Bool, true, false, cond, eqb, ltb, leb, ◌⊎◌, List, [], ◌∷◌, length, get_or, set, replicate, Some, None, Ok, Err, Option, Result, sym, refl, ap, ◌∙◌, subst, inl, inr, arith, length-set}
+use Rattle.std.proofs.Common.{◌≡◌, ℕ, zero, suc, ◌+◌, ◌*◌, ◌/◌, ◌%◌, ◌<◌, ◌≤◌, Bool, true, false, cond, ltb, ◌⊎◌, List, [], ◌∷◌, length, get_or, set, replicate, Ok, Err, Result, sym, refl, ap, ◌∙◌, subst, inl, inr, arith, length-set}
 use lib.ListN.{length-replicate, get_or-replicate}
 use Rattle.std.proofs.lemmas.List.{get_or-set_same, get_or-set_other}
 use Rattle.std.proofs.lemmas.Bool.{cases_eq, ltb-true, ltb-false}
@@ -7,13 +7,11 @@ use Rattle.values.specs.Faults.{fault}
 use Rattle.values.specs.Order.{and_then}
 use Rattle.values.specs.declared.faults.Fault.{Fault}
 use Rattle.values.specs.declared.faults.Rule.TheVariants.{HeightLow, HeightOver, CodeLeft, HeightsDiffer}
-use Rattle.parcels.specs.Opcodes.{effect_of, after, flow_of}
-use Rattle.parcels.specs.declared.opcodes.Operation.{Operation}
-use Rattle.parcels.specs.declared.reading.Instruction.{Instruction}
-use Rattle.stages.specs.Examination.{nothing, demanded, demand_of, height_after, Work, visits, examines, turn, runs, examined}
+use Rattle.parcels.specs.Opcodes.{flow_of}
+use Rattle.stages.specs.Examination.{demand_of, height_after, Work, visits, turn, runs, examined}
 use Rattle.stages.specs.declared.heights.Demand.{Demand}
-use Rattle.stages.proofs.Works.{blanks, blanks_set, blanks_first}
-use Rattle.paths.specs.Paths.{Stands, Among, successors, Path, begins, goes_on, KeepsHeights, Breaks, low, over, leaves, differ}
+use Rattle.stages.proofs.Works.{blanks, blanks_first}
+use Rattle.paths.specs.Paths.{Among, successors, Path, begins, goes_on, Breaks, low, over, leaves, differ}
 use Rattle.paths.proofs.Demands.{stands_demand, Asked, some, none, asked, led, start_below, successor_is, successor_even}
 use Rattle.paths.proofs.Readings.{spans}
 use Rattle.paths.proofs.Visiting as visiting

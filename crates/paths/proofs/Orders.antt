@@ -1,22 +1,20 @@
 -- The rules of each stage, and the tests that find them broken.
-use Rattle.std.proofs.Common.{◌≡◌, ℕ, zero, suc, ◌+◌, ◌-◌, ◌*◌, ◌%◌, ◌<◌, ◌≤◌, Bool, true, false, cond, not, ◌&&◌, ◌||◌, eqb, ltb, leb, List, [], ◌∷◌, length, is_some, Some, None, Ok, Err, Option, sym, refl, ap, ◌∙◌, subst, arith}
-use Rattle.std.proofs.lemmas.Bool.{eqb-true, eqb-false, eq-eqb, ne_eqb, lt-ltb, le-ltb, le-leb, lt-leb, ltb-true, ltb-false, leb-true, leb-false, cases_Bool}
-use Rattle.values.specs.Order.{Test, test, first}
+use Rattle.std.proofs.Common.{◌≡◌, ℕ, zero, suc, ◌%◌, ◌<◌, ◌≤◌, Bool, true, false, cond, not, ◌&&◌, ◌||◌, List, [], ◌∷◌, is_some, Some, None, Ok, Err, Option, sym, refl, ap, ◌∙◌, subst, arith}
+use Rattle.std.proofs.lemmas.Bool.{eqb-true, eqb-false, eq-eqb, ne_eqb, le-ltb, lt-leb, ltb-false, leb-false}
+use Rattle.values.specs.Order.{Test, first}
 use Rattle.values.specs.declared.faults.Fault.{Fault}
-use Rattle.parcels.specs.Layouts.{kind, literal_count, code_length, header_tests, flag_tests, reserved_set, laid_out}
+use Rattle.parcels.specs.Layouts.{header_tests, flag_tests}
 use Rattle.parcels.specs.Literals.{literal, missing, literal_tests}
-use Rattle.parcels.specs.Opcodes.{operation_of, flow_of}
+use Rattle.parcels.specs.Opcodes.{operation_of}
 use Rattle.parcels.specs.Reading.{Reading, read_at}
 use Rattle.parcels.specs.declared.layout.Header.{Header}
 use Rattle.parcels.specs.declared.literals.Literal.{Literal}
 use Rattle.parcels.specs.declared.literals.Literal.TheVariants.{Constant, Selector, Binding}
 use Rattle.parcels.specs.declared.opcodes.Operation.{Operation}
 use Rattle.parcels.specs.declared.reading.Instruction.{Instruction}
-use Rattle.stages.specs.Operands.{operand_wrong}
-use Rattle.stages.specs.Encoding.{Setting, clean, permits, asks_self, stores_trusted, returns_method, lands_wrong, closes, operation_tests, site_tests}
+use Rattle.stages.specs.Encoding.{Setting, operation_tests, site_tests}
 use Rattle.stages.specs.Sweep.{site, length_tests}
 use Rattle.stages.specs.Check.{list_tests}
-use Rattle.paths.specs.Paths.{Stands}
 use Rattle.paths.specs.Rules.{First, here, later, KeepsHeader, KeepsFlags, KeepsLiteral, AfterBlock, KeepsRules}
 
 -- none of the tests applies

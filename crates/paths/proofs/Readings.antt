@@ -1,9 +1,9 @@
 -- Reading an instruction, and the places where instructions start.
 use Rattle.std.proofs.Common.{◌≡◌, ℕ, zero, suc, ◌+◌, ◌-◌, ◌*◌, ◌/◌, ◌%◌, ◌<◌, ◌≤◌, Bool, true, false, cond, not, ◌&&◌, eqb, ltb, leb, List, [], ◌∷◌, length, get_or, drop, Ok, Err, sym, refl, ap, ◌∙◌, subst, arith, length-drop, get_or-drop}
-use Rattle.std.proofs.lemmas.Bool.{eqb-true, eqb-false, eq-eqb, ne_eqb, lt-ltb, le-leb, cond-true, cond-false}
+use Rattle.std.proofs.lemmas.Bool.{eqb-true, eqb-false, eq-eqb, ne_eqb, lt-ltb, le-leb}
 use Rattle.parcels.specs.Reading.{Reading, reads, read_at, starts_at}
 use Rattle.parcels.specs.declared.reading.Instruction.{Instruction}
-use Rattle.parcels.specs.declared.reading.Unreadable.TheVariants.{FourthExtension, Cut}
+use Rattle.parcels.specs.declared.reading.Unreadable.TheVariants.{FourthExtension}
 use Rattle.paths.proofs.Demands.{start_even}
 
 -- k pairs were read before xs: extension pairs, and then one that is none

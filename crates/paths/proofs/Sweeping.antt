@@ -1,18 +1,17 @@
 -- The encoding stage visits the places where instructions start, in order, and finds the first broken rule.
-use Rattle.std.proofs.Common.{◌≡◌, ℕ, zero, suc, ◌+◌, ◌-◌, ◌*◌, ◌%◌, ◌<◌, ◌≤◌, Bool, true, false, cond, leb, ◌⊎◌, List, [], ◌∷◌, length, Some, None, Ok, Err, Option, sym, refl, ap, ◌∙◌, subst, inl, inr, arith}
+use Rattle.std.proofs.Common.{◌≡◌, ℕ, zero, suc, ◌+◌, ◌*◌, ◌%◌, ◌<◌, ◌≤◌, Bool, true, false, cond, leb, ◌⊎◌, List, length, Some, None, Ok, Err, Option, sym, refl, subst, inl, inr, arith}
 use Rattle.std.proofs.lemmas.Bool.{leb-true, leb-false, cases_lt, cases_order}
-use Rattle.values.specs.Faults.{fault}
 use Rattle.values.specs.Order.{first, or_else}
 use Rattle.values.specs.declared.faults.Fault.{Fault}
 use Rattle.parcels.specs.Opcodes.{operation_of}
 use Rattle.parcels.specs.Reading.{Reading, read_at, starts_at}
 use Rattle.parcels.specs.declared.reading.Instruction.{Instruction}
 use Rattle.stages.specs.Encoding.{Setting, site_tests}
-use Rattle.stages.specs.Sweep.{unreadable_rule, pushes_block, site, turned, swept}
+use Rattle.stages.specs.Sweep.{pushes_block, site, turned, swept}
 use Rattle.paths.specs.Rules.{AfterBlock, KeepsRules, Meets, unread, breaks}
 use Rattle.paths.proofs.Demands.{start_even, start_below}
-use Rattle.paths.proofs.Readings.{Spans, spans, none_inside, next_starts, first_starts}
-use Rattle.paths.proofs.Orders.{Silent, first_none, first_some, rules_kept, same_read}
+use Rattle.paths.proofs.Readings.{spans, none_inside, next_starts, first_starts}
+use Rattle.paths.proofs.Orders.{first_none, first_some, rules_kept, same_read}
 
 -- what is found from p on
 pub data Found (x : Setting) (p : ℕ) : Option Fault → Type 0 where

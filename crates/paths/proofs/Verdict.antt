@@ -1,23 +1,20 @@
 -- Every verdict has its meaning.
-use Rattle.std.proofs.Common.{◌≡◌, ℕ, zero, suc, ◌+◌, ◌-◌, ◌*◌, ◌/◌, ◌%◌, ◌<◌, ◌≤◌, Bool, true, false, cond, eqb, ◌⊎◌, List, [], ◌∷◌, ◌++◌, length, drop, replicate, Some, None, Ok, Err, Option, Result, sym, refl, ap, ◌∙◌, subst, inl, inr, arith}
+use Rattle.std.proofs.Common.{◌≡◌, ℕ, zero, suc, ◌+◌, ◌%◌, ◌<◌, ◌≤◌, Bool, true, false, cond, eqb, List, [], length, drop, replicate, Some, None, Ok, Err, Option, Result, sym, refl, subst, inl, inr, arith}
 use Rattle.std.proofs.lemmas.Bool.{cases_eq, cases_lt}
 use Rattle.values.specs.Order.{first, or_else, first_from, unless, and_then}
 use Rattle.values.specs.declared.faults.Fault.{Fault}
 use Rattle.hosts.specs.Meaning.{Marks}
 use Rattle.parcels.specs.Layouts.{header_tests, flag_tests, flagged, laid_out, method_layout, block_layout, limit_of}
-use Rattle.parcels.specs.Literals.{literal_tests, wrong, first_wrong}
+use Rattle.parcels.specs.Literals.{literal_tests, wrong}
 use Rattle.parcels.specs.Parts.{Parts, split}
-use Rattle.parcels.specs.Reading.{starts_at}
 use Rattle.parcels.specs.declared.layout.Header.{Header}
-use Rattle.parcels.specs.declared.layout.Layout.{Layout}
-use Rattle.stages.specs.Encoding.{Setting, setting}
+use Rattle.stages.specs.Encoding.{setting}
 use Rattle.stages.specs.Sweep.{length_tests, swept}
 use Rattle.stages.specs.Examination.{examined, greatest}
-use Rattle.stages.specs.Check.{pairs, list_tests, admission_fault, admitted, judged, verdict_of, heights_of, Checked, concluded, answered, checked}
-use Rattle.paths.specs.Paths.{KeepsHeights, Breaks}
+use Rattle.stages.specs.Check.{pairs, list_tests, admission_fault, admitted, judged, Checked, concluded, answered, checked}
 use Rattle.paths.specs.Rules.{First, KeepsHeader, KeepsFlags, KeepsLiteral, KeepsLiterals, KeepsRules, KeepsEncoding, Meets, unread, breaks}
 use Rattle.paths.specs.Verdicts.{header, parcel, Keeps, LongEnough, HeightsAre, FirstFault, at_header, at_flags, at_literal, at_lists, at_length, at_instruction, on_path, VerdictMeans, EveryVerdictMeans}
-use Rattle.paths.proofs.Orders.{Silent, first_none, first_some, not_first, header_kept, header_silent, flags_kept, flags_silent, literal_kept, literal_silent, lists_kept, lists_silent, length_kept, length_silent, rules_silent}
+use Rattle.paths.proofs.Orders.{first_none, first_some, not_first, header_kept, header_silent, flags_kept, flags_silent, literal_kept, literal_silent, lists_kept, lists_silent, length_kept, length_silent, rules_silent}
 use Rattle.paths.proofs.Sweeping.{Found, clear, stops, sweep_finds}
 use Rattle.paths.proofs.Examining.{Kept, ResultIs, fine, broken, examination_is}
 use Rattle.paths.proofs.Walking.{keeps_heights, heights_are, refutes}

@@ -1,21 +1,18 @@
 -- Where the examination ends well: its heights are the paths', and they keep the rules.
-use Rattle.std.proofs.Common.{◌≡◌, ℕ, zero, suc, ◌+◌, ◌-◌, ◌*◌, ◌/◌, ◌%◌, ◌<◌, ◌≤◌, max, Bool, true, false, cond, eqb, ◌⊎◌, List, [], ◌∷◌, ◌++◌, length, get_or, sym, refl, ap, ◌∙◌, subst, inl, inr, arith}
+use Rattle.std.proofs.Common.{◌≡◌, ℕ, zero, suc, ◌+◌, ◌*◌, ◌/◌, ◌%◌, ◌<◌, ◌≤◌, true, eqb, ◌⊎◌, List, [], ◌∷◌, ◌++◌, length, get_or, sym, refl, ap, ◌∙◌, subst, inl, inr, arith}
 use Rattle.std.proofs.lemmas.List.{get_or_append_left}
 use Rattle.std.proofs.lemmas.Bool.{cases_eq, cases_lt, cond-true, cond-false, eq-eqb, ne_eqb}
 use Rattle.values.specs.declared.faults.Fault.{Fault}
 use Rattle.parcels.specs.Opcodes.{effect_of, after, flow_of}
 use Rattle.parcels.specs.Reading.{starts_at}
-use Rattle.parcels.specs.declared.opcodes.Operation.{Operation}
-use Rattle.parcels.specs.declared.reading.Instruction.{Instruction}
 use Rattle.stages.specs.Check.{pairs}
-use Rattle.stages.specs.Examination.{demanded, demand_of, height_after, height_of, greatest}
+use Rattle.stages.specs.Examination.{demand_of, height_after, height_of, greatest}
 use Rattle.stages.specs.declared.heights.Demand.{Demand}
-use Rattle.paths.specs.Paths.{Stands, Among, successors, Path, begins, goes_on, KeepsHeights, Breaks, low, over, leaves, differ}
-use Rattle.paths.specs.Rules.{KeepsEncoding}
+use Rattle.paths.specs.Paths.{Among, Path, begins, goes_on, KeepsHeights, Breaks, low, over, leaves, differ}
 use Rattle.paths.specs.Verdicts.{HeightsAre}
 use Rattle.paths.proofs.Demands.{stands_demand, successor_even, successor_is, start_even}
 use Rattle.paths.proofs.Readings.{spans, next_starts, first_starts}
-use Rattle.paths.proofs.Visiting.{byte, Has, In}
+use Rattle.paths.proofs.Visiting.{byte, Has}
 use Rattle.paths.proofs.Examining.{Done, Kept}
 
 -- a path's place has the path's height, and is done

@@ -1,9 +1,9 @@
 -- The rules of the stages before heights, each by its name, and the first that is broken.
-use Rattle.std.specs.Prelude.{◌≡◌, ℕ, ◌+◌, ◌*◌, ◌%◌, ◌<◌, ◌≤◌, Bool, true, false, List, [], ◌∷◌, length, Some, Ok, Err}
+use Rattle.std.specs.Prelude.{◌≡◌, ℕ, ◌+◌, ◌*◌, ◌%◌, ◌<◌, ◌≤◌, Bool, true, false, List, ◌∷◌, length, Some, Ok, Err}
 use Rattle.values.specs.Faults.{fault}
 use Rattle.values.specs.Order.{Test}
 use Rattle.values.specs.declared.faults.Fault.{Fault}
-use Rattle.parcels.specs.Layouts.{kind, literal_count, flags, code_length, reserved_set, laid_out}
+use Rattle.parcels.specs.Layouts.{kind, literal_count, code_length, reserved_set, laid_out}
 use Rattle.parcels.specs.Literals.{literal}
 use Rattle.parcels.specs.Opcodes.{operation_of, flow_of}
 use Rattle.parcels.specs.Parts.{Parts}

@@ -1,5 +1,5 @@
 -- What a verdict means.
-use Rattle.std.specs.Prelude.{◌≡◌, ℕ, ◌*◌, ◌/◌, ◌%◌, ◌<◌, ◌≤◌, Bool, true, false, List, length, Ok, Err, Result, slice_index}
+use Rattle.std.specs.Prelude.{◌≡◌, ℕ, ◌*◌, ◌%◌, ◌<◌, ◌≤◌, Bool, true, List, length, Ok, Err, slice_index}
 use Rattle.values.specs.declared.faults.Fault.{Fault}
 use Rattle.hosts.specs.Meaning.{Marks, Meaning, marks_of}
 use Rattle.parcels.specs.Layouts.{kind, literal_count, flags, code_length, header_tests, flag_tests, laid_out, limit_of}
@@ -7,7 +7,7 @@ use Rattle.parcels.specs.Literals.{literal_tests}
 use Rattle.parcels.specs.Parts.{Parts, split}
 use Rattle.parcels.specs.Reading.{starts_at}
 use Rattle.parcels.specs.declared.layout.Header.{Header}
-use Rattle.stages.specs.Encoding.{Setting, setting}
+use Rattle.stages.specs.Encoding.{setting}
 use Rattle.stages.specs.Sweep.{length_tests}
 use Rattle.stages.specs.Check.{pairs, list_tests, Checked, checked}
 use Rattle.paths.specs.Paths.{Path, KeepsHeights, Breaks}

@@ -2,10 +2,8 @@
 use Rattle.std.specs.Prelude.{ℕ, Bool, cond, List, ◌++◌, codes, decimal}
 use Rattle.std.specs.Fmt.{signed_decimal}
 use Rattle.values.specs.Faults.{number_of}
-use Rattle.values.specs.declared.faults.Fault.{Fault}
 use Rattle.values.specs.declared.kinds.Value.{Value}
 use Rattle.values.specs.declared.kinds.Value.TheVariants.{Nil, True, False, Integer, Object, Block, Closure}
-use Rattle.parcels.specs.declared.opcodes.Ending.{Ending}
 use Rattle.parcels.specs.declared.opcodes.Ending.TheVariants.{Return, MethodReturn}
 use Rattle.scripts.specs.declared.states.State.{State}
 use Rattle.scripts.specs.declared.states.State.TheVariants.{Live, Ended, Stopped}

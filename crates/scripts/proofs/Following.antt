@@ -1,11 +1,11 @@
 -- What comes of a script, by what holds of it.
-use Rattle.std.proofs.Common.{◌≡◌, ℕ, zero, suc, Bool, true, false, List, [], ◌∷◌, get_or, take, drop, set, Some, None, MatchBool, Option, sym, refl, ap, ◌∙◌, subst, arith}
+use Rattle.std.proofs.Common.{◌≡◌, ℕ, Bool, true, false, List, get_or, take, drop, set, Some, None, MatchBool, sym, refl, ap, ◌∙◌, subst, arith}
 use Rattle.values.specs.declared.kinds.Value.{Value}
 use Rattle.values.specs.declared.kinds.Value.TheVariants.{Nil}
-use Rattle.hosts.specs.Meaning.{Meaning, Sent, Marks, Kept, marks_of, with_variable, with_binding}
+use Rattle.hosts.specs.Meaning.{Meaning, Sent, Marks, Kept, marks_of}
 use Rattle.hosts.proofs.Cells.{kept_same}
 use Rattle.parcels.specs.Literals.{literal}
-use Rattle.scripts.specs.Scripts.{Script, read_cell, read_cells, write_cell, read_literal, read_receiver, read_variable, write_variable, read_binding, write_binding, send, go, end, no_block, stuck, cell_value, Outcome, goes, ends, stops, Runs, sent_by}
+use Rattle.scripts.specs.Scripts.{Script, read_cell, read_cells, write_cell, read_literal, read_receiver, read_variable, write_variable, read_binding, write_binding, send, go, end, no_block, stuck, cell_value, Outcome, goes, stops, Runs, sent_by}
 use Rattle.scripts.specs.Laws.{Leads, Quiet, Once, LacksBlock, WritesOpen, Like, marked}
 use Rattle.scripts.specs.declared.states.Stop.{Stop}
 use Rattle.scripts.specs.declared.states.Stop.TheVariants.{NotUnderstood, NoBlock}

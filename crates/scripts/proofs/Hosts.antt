@@ -1,7 +1,7 @@
 -- What writes and messages leave of a host.
-use Rattle.std.proofs.Common.{◌≡◌, ℕ, zero, suc, Bool, true, false, List, [], ◌∷◌, map, sym, refl, ap, ◌∙◌, subst, arith}
+use Rattle.std.proofs.Common.{◌≡◌, ℕ, zero, suc, Bool, false, List, [], ◌∷◌, map, sym, refl, ap, ◌∙◌, subst, arith}
 use Rattle.values.specs.declared.kinds.Value.{Value}
-use Rattle.hosts.specs.Meaning.{Cell, Meaning, Marks, Kept, OpenOnly, marks_of, put, with_variable, with_binding}
+use Rattle.hosts.specs.Meaning.{Cell, Meaning, Kept, OpenOnly, marks_of, put, with_variable, with_binding}
 use Rattle.hosts.proofs.Cells.{open_same}
 use Rattle.scripts.specs.Laws.{marked, Like}
 

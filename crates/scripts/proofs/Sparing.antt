@@ -1,14 +1,13 @@
 -- What a script leaves as it was, and what its outcome depends on.
-use Rattle.std.proofs.Common.{◌≡◌, ℕ, zero, suc, ◌≤◌, Bool, true, false, List, [], ◌∷◌, get_or, take, drop, set, MatchBool, sym, refl, ap, ◌∙◌, subst, arith}
+use Rattle.std.proofs.Common.{◌≡◌, ℕ, zero, suc, ◌≤◌, Bool, true, false, List, [], ◌∷◌, get_or, take, drop, set, sym, refl, ap, ◌∙◌, subst, arith}
 use Rattle.std.proofs.lemmas.List.{get_or-set_other}
 use Rattle.values.specs.declared.kinds.Value.{Value}
 use Rattle.values.specs.declared.kinds.Value.TheVariants.{Nil}
 use Rattle.hosts.specs.Meaning.{Cell, Meaning, Sent, put, with_variable, with_binding}
 use Rattle.parcels.specs.Literals.{literal}
-use Rattle.scripts.specs.Scripts.{Script, read_cell, read_cells, write_cell, read_literal, read_receiver, read_variable, write_variable, read_binding, write_binding, send, go, end, no_block, stuck, cell_value, Outcome, goes, ends, stops, Runs, Within}
+use Rattle.scripts.specs.Scripts.{Script, read_cell, read_cells, write_cell, read_literal, read_receiver, read_variable, write_variable, read_binding, write_binding, send, go, end, no_block, stuck, cell_value, Outcome, goes, Runs, Within}
 use Rattle.scripts.proofs.Following.{Sends}
 use Rattle.scripts.specs.Sparing.{Spot, cell, variable, binding, held, InFrame, Spares, Agrees}
-use Rattle.scripts.specs.declared.states.Stop.TheVariants.{NotUnderstood, NoBlock}
 
 -- a write leaves another cell of a host
 put_other : (cs : List Cell) (i j : ℕ) (v : Value) → (i ≡ j → ⊥) → cell_value (put cs i v) j ≡ cell_value cs j

@@ -1,5 +1,5 @@
 -- The greatest height, one byte after the other.
-use Rattle.std.proofs.Common.{◌≡◌, ℕ, ◌+◌, ◌<◌, max, List, [], ◌∷◌, length, get_or, drop, sym, refl, ap, ◌∙◌, add-one, arith, drop-cons}
+use Rattle.std.proofs.Common.{◌≡◌, ℕ, ◌+◌, ◌<◌, max, List, length, get_or, drop, sym, ap, ◌∙◌, add-one, arith, drop-cons}
 use Rattle.stages.specs.Examination.{height_of, greatest}
 
 max_assoc : (a b c : ℕ) → max (max a b) c ≡ max a (max b c)

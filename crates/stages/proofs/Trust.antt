@@ -1,8 +1,7 @@
 -- A cell's mark, as a host tells it and as a list of marks has it.
-use Rattle.std.proofs.Common.{◌≡◌, ℕ, zero, suc, List, [], ◌∷◌, map, length, unwrap_or, refl, ap}
+use Rattle.std.proofs.Common.{◌≡◌, ℕ, zero, suc, List, [], ◌∷◌, map, length, refl, ap}
 use Rattle.std.specs.Option.{option_map, ok_or}
 use Rattle.std.specs.List.{slice_get}
-use Rattle.values.specs.Faults.{fault}
 use Rattle.values.specs.declared.faults.Fault.{Fault}
 use Rattle.hosts.specs.Meaning.{Cell, mark_of}
 use Rattle.stages.specs.Encoding.{told_trusted, trusted_in}

@@ -1,5 +1,5 @@
 -- What the examination keeps, from turn to turn.
-use Rattle.std.proofs.Common.{◌≡◌, ℕ, zero, suc, ◌+◌, ◌-◌, ◌*◌, ◌/◌, ◌<◌, ◌≤◌, Bool, true, false, cond, eqb, ltb, leb, ◌⊎◌, List, [], ◌∷◌, length, get_or, drop, set, Some, None, Ok, Err, Option, Result, sym, refl, ap, ◌∙◌, subst, inl, inr, ⊎_elim, le_of_suc-le-suc, not-suc-le-zero, add-one, arith, length-set, drop-cons, get_or-set_other, get_or-set_same}
+use Rattle.std.proofs.Common.{◌≡◌, ℕ, zero, suc, ◌+◌, ◌-◌, ◌*◌, ◌/◌, ◌<◌, ◌≤◌, Bool, true, false, cond, eqb, ltb, leb, List, [], ◌∷◌, length, get_or, drop, set, Some, None, Ok, Err, Option, Result, sym, refl, ap, ◌∙◌, subst, ⊎_elim, le_of_suc-le-suc, not-suc-le-zero, add-one, arith, length-set, drop-cons, get_or-set_other, get_or-set_same}
 use Rattle.std.proofs.lemmas.Bool.{cond-true, cond-false, lt-ltb, le-ltb, le-leb, lt-leb, eq-eqb, ne_eqb, cases_eq}
 use Rattle.std.proofs.lemmas.List.{drop_all}
 use Rattle.values.specs.Faults.{fault}
@@ -7,7 +7,7 @@ use Rattle.values.specs.Order.{and_then}
 use Rattle.values.specs.declared.faults.Fault.{Fault}
 use Rattle.values.specs.declared.faults.Rule.TheVariants.{HeightLow, HeightOver, CodeLeft, HeightsDiffer}
 use Rattle.stages.specs.declared.heights.Demand.{Demand}
-use Rattle.stages.specs.Examination.{Work, demand_of, height_after, height_at, noted, visits, examines, turn, goes, runs, examined}
+use Rattle.stages.specs.Examination.{Work, demand_of, height_after, noted, visits, examines, turn, goes, runs, examined}
 
 -- how many places have no height yet
 abbrev pub blanks : List ℕ → ℕ

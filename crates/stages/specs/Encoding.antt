@@ -1,33 +1,27 @@
 -- The encoding rules, at one instruction and at all in turn.
-use Rattle.std.specs.Prelude.{ℕ, zero, suc, ◌+◌, ◌-◌, ◌*◌, ◌%◌, Bool, true, false, cond, not, ◌&&◌, ◌||◌, List, [], ◌∷◌, length, is_some, Some, None, Ok, Err, Option, Result, ◌==◌}
+use Rattle.std.specs.Prelude.{ℕ, Bool, true, false, not, ◌&&◌, List, [], ◌∷◌, length, is_some, Some, None, Ok, Err, Option, Result, ◌==◌}
 use Rattle.std.specs.Option.{unwrap_or}
 use Rattle.std.specs.List.{slice_get}
-use Rattle.values.specs.Faults.{fault}
-use Rattle.values.specs.Order.{Test, test, first, or_else}
+use Rattle.values.specs.Order.{Test, test, first}
 use Rattle.values.specs.declared.faults.Fault.{Fault}
-use Rattle.values.specs.declared.faults.Rule.{Rule}
-use Rattle.values.specs.declared.faults.Rule.TheVariants.{CodeCut, ExtensionFourth, OpcodeUnknown, OperandWrong, CleanBlock, StoreTrusted, ReturnForeign, LandingWrong, ClosureAlone}
+use Rattle.values.specs.declared.faults.Rule.TheVariants.{OpcodeUnknown, OperandWrong, CleanBlock, StoreTrusted, ReturnForeign, LandingWrong, ClosureAlone}
 use Rattle.hosts.specs.Meaning.{Marks}
 use Rattle.parcels.specs.Literals.{literal}
 use Rattle.parcels.specs.Parts.{Parts}
-use Rattle.parcels.specs.Reading.{Reading, read_at}
 use Rattle.parcels.specs.Opcodes.{operation_of, flow_of, landing_of}
 use Rattle.parcels.specs.declared.layout.CodeKind.{CodeKind}
 use Rattle.parcels.specs.declared.layout.CodeKind.TheVariants.{Method, Block}
 use Rattle.parcels.specs.declared.literals.Literal.{Literal}
 use Rattle.parcels.specs.declared.literals.Literal.TheVariants.{Constant, Selector, Binding}
-use Rattle.parcels.specs.declared.reading.Instruction.{Instruction}
-use Rattle.parcels.specs.declared.reading.Unreadable.{Unreadable}
-use Rattle.parcels.specs.declared.reading.Unreadable.TheVariants.{FourthExtension, Cut}
 use Rattle.parcels.specs.declared.opcodes.Source.TheVariants as source
 use Rattle.parcels.specs.declared.opcodes.Target.TheVariants as target
-use Rattle.parcels.specs.declared.opcodes.Direction.TheVariants.{Back, Forward}
+use Rattle.parcels.specs.declared.opcodes.Direction.TheVariants.{Forward}
 use Rattle.parcels.specs.declared.opcodes.Ending.TheVariants.{MethodReturn, Return}
 use Rattle.parcels.specs.declared.opcodes.Flow.{Flow}
 use Rattle.parcels.specs.declared.opcodes.Flow.TheVariants.{Follows, Jumps, Branches, Ends}
 use Rattle.parcels.specs.declared.opcodes.Operation.{Operation}
 use Rattle.parcels.specs.declared.opcodes.Operation.TheVariants.{Send, SendSelector, Push, Store, Jump, Branch, Pop, Duplicate, Close, End, Line}
-use Rattle.stages.specs.Operands.{block, operand_wrong}
+use Rattle.stages.specs.Operands.{operand_wrong}
 use Rattle.stages.specs.declared.encoding.Site.{Site}
 
 -- what the encoding rules look at: the parcel, the host's marks, and whether the parcel is trusted

@@ -1,5 +1,5 @@
 -- The encoding stage: the instructions in turn, from place 0 to the end of the code.
-use Rattle.std.specs.Prelude.{ℕ, zero, suc, ◌+◌, ◌-◌, ◌*◌, ◌%◌, Bool, true, false, cond, not, ◌&&◌, List, [], ◌∷◌, length, Some, None, Ok, Err, Option, ◌==◌, nat_le}
+use Rattle.std.specs.Prelude.{ℕ, zero, suc, ◌+◌, ◌-◌, ◌*◌, ◌%◌, Bool, true, false, cond, ◌&&◌, List, [], ◌∷◌, length, Some, None, Ok, Err, Option, ◌==◌, nat_le}
 use Rattle.values.specs.Faults.{fault}
 use Rattle.values.specs.Order.{Test, test, first, or_else}
 use Rattle.values.specs.declared.faults.Fault.{Fault}

@@ -1,5 +1,5 @@
 -- One turn of a search for the first fault.
-use Rattle.std.proofs.Common.{◌≡◌, ℕ, zero, suc, ◌+◌, ◌-◌, ◌<◌, ◌≤◌, Some, None, Option, sym, refl, ap, ◌∙◌, arith}
+use Rattle.std.proofs.Common.{◌≡◌, ℕ, zero, suc, ◌+◌, ◌-◌, ◌<◌, ◌≤◌, Some, None, Option, sym, ap, ◌∙◌, arith}
 use Rattle.values.specs.Order.{or_else, first_from}
 use Rattle.values.specs.declared.faults.Fault.{Fault}
 

@@ -1,11 +1,10 @@
 -- A value, its kind and its number field.
-use Rattle.std.proofs.Common.{◌≡◌, ℕ, ◌^◌, ◌<◌, ℤ, pos, negsuc, ◌≤ℤ◌, ◌<ℤ◌, Some, None, Option, sym, refl, ap, ◌∙◌, arith, w32, SFits, to_z, of_z}
+use Rattle.std.proofs.Common.{◌≡◌, ℕ, ◌^◌, ◌<◌, ℤ, pos, negsuc, ◌≤ℤ◌, ◌<ℤ◌, Some, sym, refl, ap, ◌∙◌, arith, w32, SFits, to_z, of_z}
 use Rattle.std.specs.Option.{option_map}
 use Rattle.std.proofs.lemmas.Int.{ints, of_z-to_z, to_z-of_z}
 use Rattle.values.specs.Small.{small}
-use Rattle.values.specs.Kinds.{kind_of, number_of, integer_of, value_of, ReadBack}
+use Rattle.values.specs.Kinds.{integer_of, ReadBack}
 use Rattle.values.specs.declared.small.SmallInteger.{SmallInteger}
-use Rattle.values.specs.declared.kinds.Value.{Value}
 use Rattle.values.specs.declared.kinds.Value.TheVariants.{Nil, True, False, Integer, Object, Block, Closure}
 use Rattle.values.proofs.Smalls.{small_is}
 

@@ -1,5 +1,5 @@
 -- `small` at what is one, and at what is none.
-use Rattle.std.proofs.Common.{◌≡◌, ℕ, ◌<◌, Bool, true, false, T, ltb, leb, ℤ, pos, negsuc, ◌≤ℤ◌, ◌<ℤ◌, Some, None, sym, refl, ap, ◌∙◌, subst, arith, leb→le}
+use Rattle.std.proofs.Common.{◌≡◌, ℕ, ◌<◌, Bool, true, false, T, ℤ, pos, negsuc, ◌≤ℤ◌, ◌<ℤ◌, Some, None, sym, refl, ap, ◌∙◌, arith, leb→le}
 use Rattle.std.proofs.lemmas.Bool.Decides.{nat_tests}
 use Rattle.values.specs.Small.{same_small, in_range, small_if, small}
 use Rattle.values.specs.declared.small.SmallInteger.{SmallInteger}

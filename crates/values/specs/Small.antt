@@ -1,9 +1,8 @@
 -- The small integers themselves: the one that has the low 31 bits of a number, and when two are the same.
-use Rattle.std.specs.Prelude.{◌≡◌, ℕ, suc, ◌-◌, ◌%◌, ◌^◌, ◌<◌, Bool, true, false, T, ℤ, pos, negsuc, ◌≤ℤ◌, ◌<ℤ◌, Some, None, Option, nat_lt, refl}
-use Rattle.std.proofs.Common.{ap, le_of_suc-le-suc as le-of-lt-suc, arith, le→leb, ltb→lt}
+use Rattle.std.specs.Prelude.{◌≡◌, Bool, true, false, T, ℤ, pos, negsuc, ◌≤ℤ◌, ◌<ℤ◌, Some, None, Option, nat_lt, refl}
+use Rattle.std.proofs.Common.{ap, le_of_suc-le-suc as le-of-lt-suc, le→leb, ltb→lt}
 use Rattle.std.proofs.Math.Path.{subst⁻¹}
 use mathlib.Core.HLevel.{Σ_prop_path}
-use Rattle.values.specs.Low.{signed31}
 use Rattle.values.specs.declared.small.SmallInteger.{SmallInteger}
 use Rattle.values.specs.contracts.small.SmallInteger.{the_propositions, the_values, the_ghost}
 

@@ -1,5 +1,5 @@
 -- Cells of either row: what is read from them, and what a write makes of them.
-use Rattle.std.proofs.Common.{◌≡◌, ℕ, ◌≤◌, List, Ok, Err, Result, sym, refl, ap, ◌∙◌, arith}
+use Rattle.std.proofs.Common.{◌≡◌, ℕ, ◌≤◌, List, Ok, Err, Result, refl, ap, ◌∙◌, arith}
 use Rattle.values.specs.declared.faults.Fault.{Fault}
 use Rattle.values.specs.declared.kinds.Value.{Value}
 use Rattle.hosts.specs.Meaning.{Cell, asked}

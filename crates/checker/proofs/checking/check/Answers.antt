@@ -1,7 +1,7 @@
-use mathlib.Core.Path.{◌≡◌, sym, ap, subst}
+use mathlib.Core.Path.{sym, ap, subst}
 use lib.ListN.{length}
 use Rattle.hosts.specs.Meaning.{Marks, marks_of}
-use Rattle.stages.specs.Check.{Checked, checked}
+use Rattle.stages.specs.Check.{checked}
 use Rattle.paths.specs.Verdicts.{VerdictMeans}
 use Rattle.paths.proofs.Verdict.{every_verdict_means}
 use Rattle.checker.proofs.checking.check.Goals as goal

@@ -1,4 +1,4 @@
-use Rattle.std.proofs.Common.{◌≡◌, ℤ, pos, ap, ◌∙◌, arith, w32, to_z}
+use Rattle.std.proofs.Common.{ap, ◌∙◌, arith, w32}
 use Rattle.std.specs.Option.{option_map}
 use Rattle.std.proofs.lemmas.Int.{to_z_pos}
 use Rattle.values.specs.Small.{small}

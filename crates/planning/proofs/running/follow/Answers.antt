@@ -1,4 +1,4 @@
-use Rattle.std.proofs.Common.{Ok, sym, ◌∙◌, subst}
+use Rattle.std.proofs.Common.{sym, ◌∙◌, subst}
 use Rattle.scripts.specs.Running.{Answer, Steps}
 use Rattle.engine.specs.View.{view}
 use Rattle.planning.specs.Keeping.{none, more}

@@ -1,4 +1,3 @@
-use Rattle.std.proofs.Common.{◌≤◌}
 use Rattle.engine.specs.View.{view}
 use Rattle.planning.specs.Keeping.{LeadsOn, Going, Stepped}
 use Rattle.planning.proofs.running.follow.Given as goal

@@ -28,8 +28,8 @@ returns-in-Ok g c =
     let o' = begins (vec_items c.args.plan.now.arguments) empty in
     let same : o ≡ o' = ap (λ (args : List Value). begins args run) c.deref.ensures.value ∙ ap (λ (r : Running). begins (vec_items c.args.plan.now.arguments) r) c.empty-run.ensures.run in
     let led : Led means may t s c.follow.new.host (view c.follow.new.run) =
-        c.follow.ensures.leads t s
-        (begun means may t s b c.deref.result.now f (replicate 2048 0) (replicate 2048 0) run (view c.open.new.self) c.empty-run.ensures.run c.open.ensures.run) in
+    c.follow.ensures.leads t s
+    (begun means may t s b c.deref.result.now f (replicate 2048 0) (replicate 2048 0) run (view c.open.new.self) c.empty-run.ensures.run c.open.ensures.run) in
     record {
       kept = kept means may g.met.H.Host.kept t s c.follow.new.host (view c.follow.new.run) led;
       marks = marks_kept means may g.met.H.Host.kept t s c.follow.new.host (view c.follow.new.run) led;

@@ -1,4 +1,4 @@
-use Rattle.std.proofs.Common.{◌≡◌, ap, ◌∙◌, rules}
+use Rattle.std.proofs.Common.{ap, ◌∙◌, rules}
 use Rattle.stages.specs.Encoding.{told_trusted}
 use Rattle.stages.proofs.Trust.{told_mark}
 use Rattle.stages.proofs.encoding.stores_trusted.Goals as goal

@@ -1,8 +1,8 @@
-use Rattle.std.proofs.Common.{◌≡◌, ℕ, ◌+◌, ◌-◌, ◌*◌, ◌/◌, ◌<◌, ◌≤◌, true, List, length, get_or, set, Some, None, sym, refl, ap, ◌∙◌, subst, ⊎_elim, arith, length-set, rules}
+use Rattle.std.proofs.Common.{◌≡◌, ℕ, ◌+◌, ◌-◌, ◌*◌, ◌/◌, ◌<◌, ◌≤◌, true, List, length, get_or, set, Some, None, sym, refl, ◌∙◌, subst, ⊎_elim, arith, length-set, rules}
 use Rattle.std.proofs.lemmas.List.{get_or_read}
 use Rattle.std.proofs.lemmas.Bool.{cond-true, lt-ltb}
 use Rattle.stages.specs.Examination.{height_after}
-use Rattle.stages.proofs.Works.{blanks, whole, whole_is, Taken, Visits, start, take, none, low, high, visiting, past, other, known, new, skip, begin, again, found, moved}
+use Rattle.stages.proofs.Works.{whole, whole_is, Taken, start, take, none, low, high, visiting, past, other, known, new, skip, begin, again, found, moved}
 use Rattle.stages.proofs.heights.examine.Goals as goal
 use Rattle.stages.proofs.heights.examine.Goals.{In-Some, in-Some-to+else-s-code+then-heights-s, in-Some-to+else-s-code+else-heights-s+else-heights-s-2, in_default-to}
 

@@ -1,4 +1,4 @@
-use Rattle.std.proofs.Common.{◌≡◌, ℕ, ◌+◌, max, List, drop, sym, ap, ◌∙◌, arith}
+use Rattle.std.proofs.Common.{ℕ, ◌+◌, max, List, drop, sym, ap, ◌∙◌, arith}
 use native.Mathlib.Nat.{max-zero}
 use Rattle.std.proofs.lemmas.List.{drop_all}
 use Rattle.stages.specs.Examination.{greatest}

@@ -1,12 +1,10 @@
-use Rattle.std.proofs.Common.{◌≡◌, ℕ, ◌+◌, ◌*◌, ◌<◌, false, List, length, Some, None, Ok, Err, sym, refl, ap, ◌∙◌, subst, arith}
+use Rattle.std.proofs.Common.{◌≡◌, ℕ, ◌+◌, ◌*◌, false, List, length, Some, Ok, Err, sym, ap, ◌∙◌, subst, arith}
 use Rattle.values.specs.Faults.{fault}
 use Rattle.values.specs.declared.faults.Rule.{Rule}
 use Rattle.hosts.specs.Meaning.{marks_of}
 use Rattle.parcels.specs.Parts.{parts}
 use Rattle.parcels.specs.Reading.{read_at}
-use Rattle.stages.specs.Encoding.{Setting, setting, site_fault}
-use Rattle.stages.specs.Sweep.{site}
-use Rattle.stages.specs.declared.encoding.Site.{Site}
+use Rattle.stages.specs.Encoding.{setting, site_fault}
 use Rattle.stages.proofs.Turns.{Sofar, Turn, start, ended, turn, unread, broken, onward}
 use Rattle.stages.proofs.sweep.sweep.Given as given
 use Rattle.stages.proofs.sweep.sweep.Goals as goal

@@ -1,4 +1,4 @@
-use Rattle.std.proofs.Common.{◌≡◌, ℕ, length, sym, subst}
+use Rattle.std.proofs.Common.{ℕ, length, sym, subst}
 use Rattle.parcels.specs.Parts.{parts}
 use Rattle.histories.specs.Ready.{Ready}
 use Rattle.engine.proofs.runs.Run.begin.Goals as goal

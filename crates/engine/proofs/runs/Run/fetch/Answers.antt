@@ -1,6 +1,5 @@
-use Rattle.std.proofs.Common.{◌≡◌, ℕ, ◌+◌, ◌-◌, ◌*◌, ◌<◌, ◌≤◌, false, List, Some, Ok, sym, refl, ap, ◌∙◌, subst, arith, rules}
-use Rattle.parcels.specs.Opcodes.{operation_of, effect_of, after, flow_of}
-use Rattle.parcels.specs.Parts.{parts}
+use Rattle.std.proofs.Common.{◌≡◌, ℕ, ◌+◌, ◌-◌, ◌*◌, ◌<◌, ◌≤◌, false, sym, refl, ap, ◌∙◌, subst, arith, rules}
+use Rattle.parcels.specs.Opcodes.{effect_of, after, flow_of}
 use Rattle.parcels.specs.Reading.{read_at}
 use Rattle.parcels.specs.declared.opcodes.Effect.{Effect}
 use Rattle.stages.specs.Encoding.{lands_wrong}

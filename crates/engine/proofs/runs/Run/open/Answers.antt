@@ -1,4 +1,4 @@
-use Rattle.std.proofs.Common.{◌≡◌, ℕ, Bool, List, length, set, Some, None, Ok, Err, Option, Result, sym, refl, ap, ◌∙◌, subst}
+use Rattle.std.proofs.Common.{◌≡◌, ℕ, Bool, List, length, set, Some, None, Result, sym, ap, ◌∙◌, subst}
 use Rattle.values.specs.declared.faults.Fault.{Fault}
 use Rattle.values.specs.declared.kinds.Value.{Value}
 use Rattle.hosts.specs.Meaning.{Meaning, Sent}
@@ -10,7 +10,6 @@ use Rattle.histories.specs.Histories.{CarriesOn, History, opens}
 use Rattle.histories.specs.Ready.{Ready}
 use Rattle.engine.specs.View.{view}
 use Rattle.engine.proofs.Accepting.{accepted_begins, same_parts, opened_is}
-use Rattle.engine.proofs.runs.Run.open.Given as given
 use Rattle.engine.proofs.runs.Run.open.Goals as goal
 
 pub begin-requires : goal.begin-requires

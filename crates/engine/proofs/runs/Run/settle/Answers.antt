@@ -1,6 +1,5 @@
-use Rattle.std.proofs.Common.{◌≡◌, ℕ, sym, refl, ap, ◌∙◌, subst}
+use Rattle.std.proofs.Common.{ℕ, ap, ◌∙◌}
 use Rattle.parcels.specs.Opcodes.{effect_of, after}
-use Rattle.scripts.specs.Scripts.{goes}
 use Rattle.engine.specs.Turns.{outcome_of}
 use Rattle.engine.proofs.Fetching.{onward}
 use Rattle.engine.proofs.runs.Run.settle.Goals as goal

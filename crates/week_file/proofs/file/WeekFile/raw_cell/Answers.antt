@@ -1,4 +1,4 @@
-use Rattle.std.proofs.Common.{◌≡◌, length, Ok, Err, vec_items, ap, ◌∙◌, arith}
+use Rattle.std.proofs.Common.{length, Ok, Err, vec_items, ap, ◌∙◌, arith}
 use Rattle.std.proofs.lemmas.Result.{err_from_is_err_and}
 use Rattle.week_file.specs.Cells.{raw_at}
 use Rattle.week_file.specs.Rows.{start_of, count_of, raw_by}
