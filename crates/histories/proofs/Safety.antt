@@ -30,7 +30,7 @@ use Rattle.scripts.proofs.Hosts.{kept_trans, like_trans, like_same}
 use Rattle.scripts.proofs.Following.{leads, because, like, kept}
 use Rattle.histories.specs.Opening.{Opened, open_tests, admitted, judged, opened, empty}
 use Rattle.histories.specs.Ready.{Ready}
-use Rattle.histories.specs.Histories.{Runs, Holds, Placed, MeetsNoBlock, Goes_on, History, new, taken, opens, steps, collects, Untrusted, Safe, EveryHistoryIsSafe}
+use Rattle.histories.specs.Histories.{Runs, Holds, Placed, MeetsNoBlock, GoesOn, History, new, taken, opens, steps, collects, Untrusted, Safe, EveryHistoryIsSafe}
 use Rattle.histories.proofs.Operations.{leads_to, at_most_once, writes_open, lacks, lacks_back}
 use Rattle.histories.proofs.Readiness.{accepted_ready, accepted_open, path_starts, here, script_is, within, ready_on}
 
@@ -155,7 +155,7 @@ module _ {S : Type 0} (means : S → Meaning) (may : S → Sent → Value → S 
         by (ends w v) q = let z : ◌≡◌ {A = ℕ} 0 1 = cc in absurd (omega arith)
         by (stops y) q = let same : y ≡ x = cc in ap stops same
 
-    goes_on : Goes_on means may run s f a run'
+    goes_on : GoesOn means may run s f a run'
     goes_on =
         let b = because means may run.parts.literals (next_script run) f s st.outcome f' s'
         (subst (λ (c : Script). Once run.parts.literals c) (sym is) (at_most_once run.parts (here sound.ready).instruction (run.place + 2 * (here sound.ready).instruction.pairs) run.height (here sound.ready).operation))

@@ -41,7 +41,7 @@ pub record MeetsNoBlock (run : Running) (f : List Value) : Type 0 where
 
 module _ {S : Type 0} (means : S → Meaning) (may : S → Sent → Value → S → Type 0) where
   -- what the next step of a live run on the host s with the frame f comes to
-  pub record Goes_on (run : Running) (s : S) (f : List Value) (a : Answer) (run' : Running) : Type 0 where
+  pub record GoesOn (run : Running) (s : S) (f : List Value) (a : Answer) (run' : Running) : Type 0 where
     pub unrefused : a ≡ Ok tt
     pub not_understood : (n : ℕ) → Iff (run'.state ≡ Stopped (NotUnderstood n)) ((x : Sent) × (sent_by run.parts.literals (next_script run) f (means s) ≡ Some x) × ((means s).understands x ≡ false) × (x.selector ≡ n))
     pub no_block : Iff (run'.state ≡ Stopped NoBlock) (MeetsNoBlock run f)
@@ -68,7 +68,7 @@ module _ {S : Type 0} (means : S → Meaning) (may : S → Sent → Value → S 
   pub record Safe (s₀ s : S) (rs : Runs) (past : History s₀ s rs) : Type 0 where
     pub placed : (k : ℕ) (run : Running) → Holds rs k run → run.state ≡ Live → Placed run
     pub goes_on : (k : ℕ) (run : Running) → Holds rs k run → run.state ≡ Live
-        → (f f' : List Value) (a : Answer) (run' : Running) (s' : S) → cells_of run.parts ≤ length f → Steps means may run s f a run' s' f' → Goes_on run s f a run'
+        → (f f' : List Value) (a : Answer) (run' : Running) (s' : S) → cells_of run.parts ≤ length f → Steps means may run s f a run' s' f' → GoesOn run s f a run'
     pub variables : Untrusted past → (i : ℕ) → marked (marks_of (means s₀)).variables i ≡ true → cell_value (means s).variables i ≡ cell_value (means s₀).variables i
     pub bindings : Untrusted past → (i : ℕ) → marked (marks_of (means s₀)).bindings i ≡ true → cell_value (means s).bindings i ≡ cell_value (means s₀).bindings i
 
