@@ -1,21 +1,19 @@
 -- The comparisons tell what they should.
-use Rattle.std.proofs.Common.{◌≡◌, Bool, true, false, not, T, ℤ, pos, negsuc, nat_abs, ◌≤ℤ◌, ◌<ℤ◌, Some, Decides, sym, refl, ap, inl, inr, true≢false, arith}
+use Rattle.std.proofs.Common.{◌≡◌, Bool, true, false, not, ℤ, pos, negsuc, nat_abs, ◌≤ℤ◌, ◌<ℤ◌, Some, Decides, sym, refl, ap, inl, inr, true≢false, arith}
 use lib.IntN.{pos-ne-negsuc}
 use lib.Signed.{lt_z, le_z, mag}
 use Rattle.std.proofs.lemmas.Int.{ints}
 use Rattle.std.proofs.lemmas.Bool.Decides.{Decides-eqb, Decides-like, Decides-not}
+use Rattle.values.proofs.Smalls.{true_from}
 use Rattle.hosts.specs.Meaning.{Sent}
-use Rattle.arithmetic.specs.Operators.{eqZ, truth}
+use Rattle.values.specs.Kinds.{truth}
+use Rattle.arithmetic.specs.Operators.{eqZ}
 use Rattle.arithmetic.specs.Own.{own}
 use Rattle.arithmetic.specs.Laws.{asks, Tells, Compares}
 
 tells_by : (m : Sent) (P : Type 0) (b : Bool) → own m ≡ Some (truth b) → Decides b P → Tells m P
 tells_by m P true e d = inl (e, d.0 refl)
 tells_by m P false e d = inr (e, (λ p. absurd (true≢false (sym (d.1 p)))))
-
-true_from : (b : Bool) → T b → b ≡ true
-true_from true t = refl
-true_from false t = absurd t
 
 decides_less : (a b : ℤ) → Decides (lt_z a b) (a <ℤ b)
 decides_less a b = ((λ e. omega (arith, ints)), (λ h. true_from (lt_z a b) h.lt))

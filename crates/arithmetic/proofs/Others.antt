@@ -12,7 +12,7 @@ use Rattle.arithmetic.specs.Own.{own}
 use Rattle.arithmetic.specs.Laws.{asks, OnlyThese}
 
 none : {X : Type 0} (v : Value) → None ≡ Some v → X
-none v e = let z : ◌≡◌ {A = ℕ} 0 1 = cc in absurd (omega arith)
+none v e = absurd cc
 
 -- a selector that gives a value stands in the table
 module _ (s : ℕ) (x y : ℤ) (v : Value) where

@@ -1,15 +1,13 @@
 -- Small integers in 64 bits.
-use Rattle.std.proofs.Common.{◌≡◌, ℤ, ◌+ℤ◌, ◌-ℤ◌, ◌*ℤ◌, ap, ◌∙◌, subst, arith, w32, w64, SFits, to_z, of_z}
+use Rattle.std.proofs.Common.{◌≡◌, ◌≢◌, ℤ, pos, ◌+ℤ◌, ◌-ℤ◌, ◌*ℤ◌, ap, ◌∙◌, subst, arith, w32, w64, SFits, to_z, of_z}
 use borrow.Author.Numbers.{signed_product}
 use Rattle.std.proofs.lemmas.Int.{ints, to_z-of_z}
 use Rattle.values.specs.declared.small.SmallInteger.{SmallInteger}
+use Rattle.values.proofs.Parts.{small_fits}
 
-small_fits : (s : SmallInteger) → SFits w32 s.value
-small_fits s = omega (arith, ints, s.low, s.high)
-
--- a small integer that was read, and widened
-pub widened_is : (s : SmallInteger) (n w : ℤ) → n ≡ s.value → w ≡ to_z w32 (of_z w32 n) → w ≡ s.value
-widened_is s n w p q = omega (arith, ints, small_fits s)
+-- one that is not 0 in 64 bits
+pub nonzero : (s : SmallInteger) (w : ℤ) → w ≡ s.value → (of_z w64 w ≡ 0 → ⊥) → s.value ≢ pos 0
+nonzero s w p h e = h (ap (of_z w64) (p ∙ e))
 
 there : (z : ℤ) → SFits w32 z → to_z w64 (of_z w64 z) ≡ z
 there z f = omega (arith, ints)

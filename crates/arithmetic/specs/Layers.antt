@@ -1,8 +1,10 @@
 -- What may come of a message over the layer keeps what the host below keeps.
-use Rattle.std.specs.Prelude.{◌≡◌, Bool, ◌||◌, is_some, Some, None, Option, MatchOption}
+use Rattle.std.specs.Prelude.{◌≡◌, ◌≤◌, Bool, ◌||◌, length, is_some, Some, None, Option, MatchOption}
 use Rattle.std.proofs.Common.{ap}
 use Rattle.values.specs.declared.kinds.Value.{Value}
-use Rattle.hosts.specs.Meaning.{Meaning, Sent, Kept}
+use Rattle.hosts.specs.declared.rows.Row.{Row}
+use Rattle.hosts.specs.declared.rows.Row.TheVariants.{Variables, Bindings}
+use Rattle.hosts.specs.Meaning.{Meaning, Sent, Kept, row_of}
 use Rattle.hosts.proofs.Cells.{kept_same}
 use Rattle.arithmetic.specs.Own.{own}
 use Rattle.arithmetic.specs.Layer.{layered, MayLayered}
@@ -22,3 +24,9 @@ module _ {S : Type 0} (means : S → Meaning) (may : S → Sent → Value → S 
 
   pub kept_over : (s t : S) (m : Sent) (v : Value) → MayLayered may s m v t → Kept (layered (means s)) (layered (means t))
   kept_over s t m v h = kept_layered (means s) (means t) (kept_by (own m) s t m v h)
+
+-- the rows over the layer are those below
+pub few_over : {S : Type 0} (means : S → Meaning) → ((s : S) (w : Row) → length (row_of (means s) w) ≤ 1024)
+    → (s : S) (w : Row) → length (row_of (layered (means s)) w) ≤ 1024
+few_over means few s Variables = few s Variables
+few_over means few s Bindings = few s Bindings

@@ -1,9 +1,8 @@
 -- The operators on small integers, by their selector numbers.
-use Rattle.std.specs.Prelude.{ℕ, Bool, true, false, cond, not, List, [], ◌∷◌, ℤ, pos, negsuc, ◌+ℤ◌, ◌-ℤ◌, ◌*ℤ◌, Some, None, Option, ◌==◌, int_le, int_lt}
-use Rattle.std.specs.Option.{option_map}
-use Rattle.values.specs.Small.{small}
+use Rattle.std.specs.Prelude.{ℕ, Bool, false, cond, not, List, [], ◌∷◌, ℤ, pos, negsuc, ◌+ℤ◌, ◌-ℤ◌, ◌*ℤ◌, Some, None, Option, ◌==◌, int_le, int_lt}
+use Rattle.values.specs.Kinds.{integer}
+use Rattle.values.specs.Kinds.{truth}
 use Rattle.values.specs.declared.kinds.Value.{Value}
-use Rattle.values.specs.declared.kinds.Value.TheVariants.{True, False, Integer}
 use Rattle.arithmetic.specs.declared.operators.Operator.{Operator}
 use Rattle.arithmetic.specs.declared.operators.Operator.TheVariants.{Add, Subtract, Less, Greater, AtMost, AtLeast, Equal, Unequal, Multiply, Remainder, Quotient}
 use Rattle.arithmetic.specs.Division.{floor_quotient, floor_remainder}
@@ -33,14 +32,9 @@ beside s (e ∷ es) = cond (s == e.0) (Some e.1) (beside s es)
 abbrev pub operator_of : ℕ → Option Operator
 operator_of s = beside s table
 
--- true or false, as a value
-abbrev pub truth : Bool → Value
-truth true = True
-truth false = False
-
 -- z as a value, if it is a small integer
 abbrev pub integer_of : ℤ → Option Value
-integer_of z = option_map Integer (small z)
+integer_of = integer
 
 -- whether two integers are equal
 abbrev pub eqZ : ℤ → ℤ → Bool

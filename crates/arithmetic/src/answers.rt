@@ -17,14 +17,8 @@ pub(crate) fn own_answer(m: &Message) -> Option<Value>
     let [argument] = m.arguments else {
         return None;
     };
-    match m.receiver {
-        Value::Integer(x) => match *argument {
-            Value::Integer(y) => match Operator::of(m.selector) {
-                Some(operator) => operator.apply(x, y),
-                None => None,
-            },
-            _ => None,
-        },
-        _ => None,
-    }
+    let (Value::Integer(x), Value::Integer(y)) = (m.receiver, *argument) else {
+        return None;
+    };
+    Operator::try_from(m.selector).ok()?.apply(x, y)
 }

@@ -17,7 +17,7 @@ pub(crate) fn floor_quotient(a: i64, b: i64) -> i64
     }
 }
 
-// What is left of a then; it has the sign of b.
+// What is left of a then; it has the sign of b. Two functions and no pair, since every message asks for one of the two.
 pub(crate) fn floor_remainder(a: i64, b: i64) -> i64
     requires nonzero { b ≢ pos 0 }
     requires dividend { FitsSigned w32 a }

@@ -1,14 +1,14 @@
 // The layer as a host.
 ghost use Rattle.std.specs.Prelude.{◌≡◌};
-ghost use Rattle.hosts.specs.Meaning.{place_of, with_variable, with_binding, Answered};
+ghost use Rattle.hosts.specs.Meaning.{row_of, with_cell, place_of, Answered};
 ghost use Rattle.hosts.specs.Sending.{sent};
 ghost use Rattle.arithmetic.specs.Layer.{layered, MayLayered, ByItself, PassedOn};
 ghost use Rattle.arithmetic.specs.Laws.{Divides, DividesOnlySo, Computes, AlwaysLeft, NeverByZero, Compares, OnlyThese, Tried};
-ghost use Rattle.arithmetic.specs.Layers.{kept_over};
+ghost use Rattle.arithmetic.specs.Layers.{kept_over, few_over};
 ghost use Rattle.std.proofs.Common.{rules};
 
 use crate::answers::own_answer;
-use hosts::{Host, Message};
+use hosts::{Host, Message, Row};
 use values::{Fault, Value};
 
 // Arithmetic over the host below.
@@ -49,52 +49,30 @@ impl<H: Host> Host for Arithmetic<H> {
 
     ghost kept = { λ s t m v h. kept_over H.Host.means H.Host.may H.Host.kept s.below t.below m v h };
 
-    ghost few_variables = { Prim.search rules };
-
-    ghost few_bindings = { Prim.search rules };
+    ghost few = { λ s row. few_over H.Host.means H.Host.few s.below row };
 
     fn receiver(&self) -> Value {
         self.below.receiver()
     }
 
-    fn variable_count(&self) -> usize {
-        self.below.variable_count()
+    fn count(&self, row: Row) -> usize {
+        self.below.count(row)
     }
 
-    fn binding_count(&self) -> usize {
-        self.below.binding_count()
+    fn trusted(&self, row: Row, i: usize) -> Result<bool, Fault> {
+        self.below.trusted(row, i)
     }
 
-    fn variable_trusted(&self, i: usize) -> Result<bool, Fault> {
-        self.below.variable_trusted(i)
+    fn value(&self, row: Row, i: usize) -> Result<Value, Fault> {
+        self.below.value(row, i)
     }
 
-    fn binding_trusted(&self, i: usize) -> Result<bool, Fault> {
-        self.below.binding_trusted(i)
-    }
-
-    fn variable(&self, i: usize) -> Result<Value, Fault> {
-        self.below.variable(i)
-    }
-
-    fn binding(&self, i: usize) -> Result<Value, Fault> {
-        self.below.binding(i)
-    }
-
-    fn set_variable(&mut self, i: usize, v: Value) -> Result<(), Fault>
-        ensures answer { result ≡ place_of (H.Host.means self.old.below).variables i }
-        ensures after { layered (H.Host.means self.new.below) ≡ with_variable (layered (H.Host.means self.old.below)) i v }
-        ensures below { H.Host.means self.new.below ≡ with_variable (H.Host.means self.old.below) i v }
+    fn set_value(&mut self, row: Row, i: usize, v: Value) -> Result<(), Fault>
+        ensures answer { result ≡ place_of (row_of (H.Host.means self.old.below) row) i }
+        ensures after { layered (H.Host.means self.new.below) ≡ with_cell (layered (H.Host.means self.old.below)) row i v }
+        ensures below { H.Host.means self.new.below ≡ with_cell (H.Host.means self.old.below) row i v }
     {
-        self.below.set_variable(i, v)
-    }
-
-    fn set_binding(&mut self, i: usize, v: Value) -> Result<(), Fault>
-        ensures answer { result ≡ place_of (H.Host.means self.old.below).bindings i }
-        ensures after { layered (H.Host.means self.new.below) ≡ with_binding (layered (H.Host.means self.old.below)) i v }
-        ensures below { H.Host.means self.new.below ≡ with_binding (H.Host.means self.old.below) i v }
-    {
-        self.below.set_binding(i, v)
+        self.below.set_value(row, i, v)
     }
 
     fn send(&mut self, m: &Message) -> Option<Value>
@@ -102,6 +80,7 @@ impl<H: Host> Host for Arithmetic<H> {
         ensures itself { ByItself self.old.below (sent m.now) result self.new.below }
         ensures passes { PassedOn H.Host.means H.Host.may self.old.below (sent m.now) result self.new.below }
     {
+        // `or_else` was tried: a proof does not see what its closure leaves in the host below.
         match own_answer(m) {
             Some(v) => Some(v),
             None => self.below.send(m),

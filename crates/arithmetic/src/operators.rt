@@ -1,9 +1,10 @@
 // The messages that the layer answers itself.
 ghost use Rattle.std.specs.Prelude.{◌≡◌};
-ghost use Rattle.arithmetic.specs.Operators.{operator_of, truth, integer_of, applied};
+ghost use Rattle.std.specs.Option.{ok_or};
+ghost use Rattle.arithmetic.specs.Operators.{operator_of, applied};
 
 use crate::division::{floor_quotient, floor_remainder};
-use values::{SmallInteger, Value};
+use values::{SmallInteger, Unknown, Value};
 
 // What is done with two integers.
 #[derive(Clone, Copy)]
@@ -21,77 +22,50 @@ pub(crate) enum Operator {
     Quotient,
 }
 
-// True or false, as a value.
-fn truth_value(b: bool) -> Value
-    ensures { result ≡ truth b }
-{
-    if b { Value::True } else { Value::False }
-}
+impl TryFrom<u32> for Operator {
+    type Error = Unknown<u32>;
 
-// n as a value, if it is a small integer.
-fn integer_value(n: i64) -> Option<Value>
-    ensures { result ≡ integer_of n }
-{
-    let Ok(narrow) = i32::try_from(n) else {
-        return None;
-    };
-    match SmallInteger::checked(narrow) {
-        Some(s) => Some(Value::Integer(s)),
-        None => None,
+    ghost try_from_gives = { λ s r. r ≡ ok_or (operator_of s) (record { 0 = s }) };
+
+    // The operator that a selector number stands for.
+    fn try_from(selector: u32) -> Result<Operator, Unknown<u32>> {
+        match selector {
+            0 => Ok(Operator::Add),
+            1 => Ok(Operator::Subtract),
+            2 => Ok(Operator::Less),
+            3 => Ok(Operator::Greater),
+            4 => Ok(Operator::AtMost),
+            5 => Ok(Operator::AtLeast),
+            6 => Ok(Operator::Equal),
+            7 => Ok(Operator::Unequal),
+            8 => Ok(Operator::Multiply),
+            10 => Ok(Operator::Remainder),
+            13 => Ok(Operator::Quotient),
+            _ => Err(Unknown(selector)),
+        }
     }
 }
 
 impl Operator {
-    // The operator that a selector number stands for.
-    pub(crate) fn of(selector: u32) -> Option<Operator>
-        ensures { result ≡ operator_of selector }
-    {
-        match selector {
-            0 => Some(Operator::Add),
-            1 => Some(Operator::Subtract),
-            2 => Some(Operator::Less),
-            3 => Some(Operator::Greater),
-            4 => Some(Operator::AtMost),
-            5 => Some(Operator::AtLeast),
-            6 => Some(Operator::Equal),
-            7 => Some(Operator::Unequal),
-            8 => Some(Operator::Multiply),
-            10 => Some(Operator::Remainder),
-            13 => Some(Operator::Quotient),
-            _ => None,
-        }
-    }
-
     // What it gives for x and y, if it gives a value.
     pub(crate) fn apply(self, x: SmallInteger, y: SmallInteger) -> Option<Value>
         ensures { result ≡ applied self x.value y.value }
     {
-        let a = i64::from(x.get());
-        let b = i64::from(y.get());
+        let a = i64::from(x);
+        let b = i64::from(y);
         match self {
-            Operator::Add => integer_value(a + b),
-            Operator::Subtract => integer_value(a - b),
-            Operator::Less => Some(truth_value(a < b)),
-            Operator::Greater => Some(truth_value(a > b)),
-            Operator::AtMost => Some(truth_value(a <= b)),
-            Operator::AtLeast => Some(truth_value(a >= b)),
-            Operator::Equal => Some(truth_value(a == b)),
-            Operator::Unequal => Some(truth_value(a != b)),
-            Operator::Multiply => integer_value(a * b),
-            Operator::Remainder => {
-                if b == 0 {
-                    None
-                } else {
-                    integer_value(floor_remainder(a, b))
-                }
-            }
-            Operator::Quotient => {
-                if b == 0 {
-                    None
-                } else {
-                    integer_value(floor_quotient(a, b))
-                }
-            }
+            Operator::Add => Value::try_from(a + b).ok(),
+            Operator::Subtract => Value::try_from(a - b).ok(),
+            Operator::Less => Some(Value::from(a < b)),
+            Operator::Greater => Some(Value::from(a > b)),
+            Operator::AtMost => Some(Value::from(a <= b)),
+            Operator::AtLeast => Some(Value::from(a >= b)),
+            Operator::Equal => Some(Value::from(a == b)),
+            Operator::Unequal => Some(Value::from(a != b)),
+            Operator::Multiply => Value::try_from(a * b).ok(),
+            Operator::Remainder if b != 0 => Value::try_from(floor_remainder(a, b)).ok(),
+            Operator::Quotient if b != 0 => Value::try_from(floor_quotient(a, b)).ok(),
+            Operator::Remainder | Operator::Quotient => None,
         }
     }
 }

@@ -9,7 +9,8 @@ use stages::pass_stages;
 use values::Fault;
 
 // Checks a parcel over a host, which is asked only for its counts and marks. The caller says whether the parcel is trusted, and lends a list
-// of height bytes and a list of waiting places. Accepted, the answer is the greatest height, and the height bytes are those of the pairs.
+// of height bytes and a list of waiting places. Accepted, the answer is the greatest height, and the height bytes are those of the pairs. The
+// lists are two parameters: a struct of the two would have every caller wrap two slices, and its contract say that it keeps both.
 pub fn check<H: Host>(
     host: &H,
     bytes: &[u8],

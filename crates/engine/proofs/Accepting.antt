@@ -1,5 +1,5 @@
 -- What opening has of a parcel that the check accepts.
-use Rattle.std.proofs.Common.{◌≡◌, ℕ, Bool, List, [], ◌∷◌, length, Some, None, Ok, Err, Option, Result, sym, refl, ap, ◌∙◌, subst, arith}
+use Rattle.std.proofs.Common.{◌≡◌, ℕ, Bool, List, [], ◌∷◌, length, Some, None, Ok, Option, Result, sym, refl, ap, ◌∙◌, subst}
 use Rattle.std.proofs.lemmas.Bool.{cond-false}
 use Rattle.values.specs.Order.{Test, first, unless, and_then}
 use Rattle.values.specs.declared.faults.Fault.{Fault}
@@ -12,10 +12,11 @@ use Rattle.paths.specs.Verdicts.{header, parcel, Keeps}
 use Rattle.paths.proofs.Orders.{Silent, header_silent, flags_silent}
 use Rattle.paths.proofs.Verdict.{every_verdict_means}
 use Rattle.values.specs.declared.kinds.Value.{Value}
-use Rattle.scripts.specs.Running.{Running}
-use Rattle.histories.specs.Opening.{open_tests, admitted, judged, opened}
+use Rattle.scripts.specs.Running.{Running, Answer}
+use Rattle.histories.specs.Opening.{Opened, open_tests, begun, laid, admitted, judged, opened}
 use Rattle.histories.specs.Ready.{Ready}
 use Rattle.histories.proofs.Readiness.{accepted_ready}
+use Rattle.engine.specs.Turns.{if_ok}
 
 silent_none : (ts : List Test) → Silent ts → first ts ≡ None
 silent_none [] s = refl
@@ -26,6 +27,14 @@ parts_are : (b : List ℕ) → first (header_tests b) ≡ None → first (flag_t
 parts_are b e f =
     ap (λ (o : Option Fault). and_then (and_then (unless o (header b)) flagged) (λ l. Ok (split b l))) e
     ∙ ap (λ (o : Option Fault). and_then (unless o (laid_out (header b))) (λ l. Ok (split b l))) f
+
+-- opening, by what beginning answers
+abbrev pub opened_by : Answer → ℕ → Parts → Meaning → List Value → List Value → Running → Opened
+opened_by r top p m args f run = record { answer = and_then r (λ _. Ok top); run = if_ok r (begun p m) run; frame = if_ok r (laid p args f) f }
+
+by_tests : (o : Option Fault) (top : ℕ) (p : Parts) (m : Meaning) (args f : List Value) (run : Running) → opened_by (unless o tt) top p m args f run ≡ admitted o top p m args f run
+by_tests None top p m args f run = refl
+by_tests (Some x) top p m args f run = refl
 
 module _ (m : Meaning) (t : Bool) (b hs ws : List ℕ) (top : ℕ) (e : Ok top ≡ (checked (marks_of m) t b hs ws).verdict) where
   keeps : Keeps (marks_of m) t b
@@ -43,13 +52,11 @@ module _ (m : Meaning) (t : Bool) (b hs ws : List ℕ) (top : ℕ) (e : Ok top �
   pub same_parts : (p : Parts) → Ok p ≡ parts_of b → p ≡ parcel b
   same_parts p q = let r = q ∙ accepted_parts in cc
 
-  pub never_refused : (f : Fault) → Err f ≡ parts_of b → ⊥
-  never_refused f q = let r = q ∙ accepted_parts in let z : ◌≡◌ {A = ℕ} 0 1 = cc in omega arith
-
-  -- opening, once the check accepts
-  pub opened_is : (args f : List Value) (run : Running) (o : Option Fault) (p : Parts) → Ok p ≡ parts_of b → o ≡ first (open_tests p args f) → admitted o top p m args f run ≡ opened m t b args f hs ws run
-  opened_is args f run o p q x =
+  -- opening, once the check accepts, by what beginning answers
+  pub opened_is : (args f : List Value) (run : Running) (r : Answer) (p : Parts) → Ok p ≡ parts_of b → r ≡ unless (first (open_tests p args f)) tt → opened_by r top p m args f run ≡ opened m t b args f hs ws run
+  opened_is args f run r p q x =
       let s = same_parts p q in
-      ap (λ (y : Option Fault). admitted y top p m args f run) x
+      ap (λ (y : Answer). opened_by y top p m args f run) x
+      ∙ by_tests (first (open_tests p args f)) top p m args f run
       ∙ ap (λ (y : Parts). admitted (first (open_tests y args f)) top y m args f run) s
       ∙ ap (λ (r : Result ℕ Fault). judged r (parcel b) m args f run) e

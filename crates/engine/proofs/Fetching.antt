@@ -1,5 +1,6 @@
 -- What readiness gives at the place of a live run.
 use Rattle.std.proofs.Common.{◌≡◌, ℕ, ◌+◌, ◌*◌, ◌≤◌, false, List, length, replicate, Some, None, Ok, Err, sym, ap, ◌∙◌, subst, arith}
+use Rattle.std.proofs.lemmas.Option.{same_Some}
 use mathlib.Core.Bool.{Bool-set}
 use mathlib.Core.HLevel.{⊥_prop}
 use mathlib.Core.Logic.{∥∥₁_elim, ∥∥₁_map}
@@ -35,10 +36,7 @@ module _ {p : Parts} {v b place h : ℕ} (t : ∥ Ready p v b place h ∥₁) wh
 
   module _ {i : Instruction} {o : Operation} (s : Stands p.code place i o) where
     does : (r : Ready p v b place h) → (here r).operation ≡ o
-    does r = some (sym (here r).stands.known ∙ ap (λ (j : Instruction). operation_of j.opcode) (same r i s.rest s.read) ∙ s.known)
-      where
-        some : {x y : Operation} → Some x ≡ Some y → x ≡ y
-        some e = cc
+    does r = same_Some _ _ (sym (here r).stands.known ∙ ap (λ (j : Instruction). operation_of j.opcode) (same r i s.rest s.read) ∙ s.known)
 
     pub need : (effect_of o i).takes ≤ h
     need = ∥∥₁_elim t le_prop (λ r. r.heights.need r.path s)

@@ -1,6 +1,6 @@
 // Empty runs, opening and collecting.
-ghost use Rattle.std.specs.Prelude.{◌≡◌, length, Some, None};
-ghost use Rattle.values.specs.Order.{first};
+ghost use Rattle.std.specs.Prelude.{◌≡◌, length};
+ghost use Rattle.values.specs.Order.{first, unless};
 ghost use Rattle.hosts.specs.Meaning.{marks_of};
 ghost use Rattle.parcels.specs.Parts.{parts};
 ghost use Rattle.stages.specs.Check.{checked};
@@ -10,13 +10,13 @@ ghost use Rattle.histories.specs.Opening.{open_tests, opened, begun, laid, empty
 ghost use Rattle.histories.specs.Histories.{CarriesOn};
 ghost use Rattle.histories.specs.Ready.{Ready};
 ghost use Rattle.histories.specs.Tried.{TriedRuns};
-ghost use Rattle.engine.specs.Turns.{if_none};
+ghost use Rattle.engine.specs.Turns.{if_ok};
 ghost use Rattle.engine.specs.View.{view};
 
 use crate::frames::lay_out;
 use crate::runs::Run;
 use checker::check;
-use hosts::Host;
+use hosts::{Host, Row};
 use parcels::{CodeKind, Ending, Layout, Parcel};
 use scripts::State;
 use values::{Fault, Rule, Value};
@@ -57,17 +57,9 @@ impl<'a> Run<'a> {
         ensures state { result.0 ≡ (view self.entry).state }
         ensures value { result.1 ≡ value_in (view self.entry).state }
     {
-        let Run {
-            parcel: _,
-            variables: _,
-            bindings: _,
-            state,
-            place: _,
-            height: _,
-        } = self;
-        match state {
-            State::Ended { how: _, value } => (state, value),
-            State::Live | State::Stopped(_) => (state, Value::Nil),
+        match self.state {
+            State::Ended { value, .. } => (self.state, value),
+            State::Live | State::Stopped(_) => (self.state, Value::Nil),
         }
     }
 
@@ -78,28 +70,22 @@ impl<'a> Run<'a> {
         parcel: Parcel<'a>,
         arguments: &[Value],
         frame: &mut [Value],
-    ) -> Option<Fault>
+    ) -> Result<(), Fault>
         requires { Ready (parts parcel) (length (H.means host.now).variables) (length (H.means host.now).bindings) 0 0 }
-        ensures answer { result ≡ first (open_tests (parts parcel.entry) arguments.now frame.old) }
-        ensures run { view self.new ≡ if_none result (begun (parts parcel.entry) (H.means host.now)) (view self.old) }
-        ensures frame { frame.new ≡ if_none result (laid (parts parcel.entry) arguments.now frame.old) frame.old }
+        ensures answer { result ≡ unless (first (open_tests (parts parcel.entry) arguments.now frame.old)) tt }
+        ensures run { view self.new ≡ if_ok result (begun (parts parcel.entry) (H.means host.now)) (view self.old) }
+        ensures frame { frame.new ≡ if_ok result (laid (parts parcel.entry) arguments.now frame.old) frame.old }
     {
         let layout = parcel.layout;
         if arguments.len() != layout.arguments as usize {
-            return Some(Fault {
-                rule: Rule::ArgumentsDiffer,
-                place: 0,
-            });
+            return Err(Rule::ArgumentsDiffer.at(0));
         }
-        if frame.len() < layout.arguments as usize + layout.slots as usize {
-            return Some(Fault {
-                rule: Rule::FrameShort,
-                place: 0,
-            });
+        if frame.len() < layout.cells() {
+            return Err(Rule::FrameShort.at(0));
         }
         lay_out(frame, arguments, layout.locals as usize);
-        let variables = host.variable_count();
-        let bindings = host.binding_count();
+        let variables = host.count(Row::Variables);
+        let bindings = host.count(Row::Bindings);
         *self = Run {
             parcel,
             variables,
@@ -108,11 +94,11 @@ impl<'a> Run<'a> {
             place: 0,
             height: 0,
         };
-        None
+        Ok(())
     }
 
     // Opens a parcel on a host: checks it, and begins a run of it with the arguments in the first frame cells and nil in the locals. A refusal
-    // leaves the run and the frame; the lists are as the check leaves them. The answer is the greatest height.
+    // leaves the run and the frame; the two lists are as the check leaves them. The answer is the greatest height.
     pub fn open<H: Host>(
         &mut self,
         host: &H,
@@ -130,15 +116,11 @@ impl<'a> Run<'a> {
         ensures waiting { waiting.new ≡ (checked (marks_of (H.means host.now)) trusted bytes.now heights.old waiting.old).waiting }
         ensures on { CarriesOn H.means H.may host.now (view self.old) host.now (view self.new) }
     {
-        match check(host, bytes, trusted, heights, waiting) {
-            Ok(top) => match Parcel::read(bytes) {
-                Ok(parcel) => match self.begin(host, parcel, arguments, frame) {
-                    Some(fault) => Err(fault),
-                    None => Ok(top),
-                },
-                Err(_) => unreachable(),
-            },
-            Err(fault) => Err(fault),
-        }
+        let top = check(host, bytes, trusted, heights, waiting)?;
+        let Ok(parcel) = Parcel::read(bytes) else {
+            unreachable!()
+        };
+        self.begin(host, parcel, arguments, frame)?;
+        Ok(top)
     }
 }

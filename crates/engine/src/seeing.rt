@@ -34,9 +34,7 @@ impl Run<'_> {
         ensures { result ≡ elim (read_at (view self.now).parts.code (view self.now).place) [ Ok p ↦ Some p.0.opcode | Err e ↦ None ] }
     {
         let mut reader = Reader::at(self.parcel.code, self.place);
-        match reader.advance() {
-            Ok((instruction, _)) => Some(instruction.opcode),
-            Err(_) => None,
-        }
+        let (instruction, _) = reader.advance().ok()?;
+        Some(instruction.opcode)
     }
 }

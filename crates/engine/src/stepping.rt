@@ -1,156 +1,135 @@
 // One step of a run.
-ghost use Rattle.std.specs.Prelude.{◌≡◌, ℕ, ◌+◌, ◌*◌, ◌≤◌, length, IfNone, if◌then◌else◌, None};
+ghost use Rattle.std.specs.Prelude.{◌≡◌, ℕ, ◌+◌, ◌*◌, ◌≤◌, length, OnOk, Ok, if◌then◌else◌};
 ghost use Rattle.parcels.specs.Parts.{parts};
 ghost use Rattle.scripts.specs.declared.states.State.TheVariants.{Live};
-ghost use Rattle.values.specs.Order.{first};
-ghost use Rattle.engine.specs.Turns.{outcome_of, NextTurn, Led, Long, Performed, count_tests};
-ghost use Rattle.scripts.specs.Scripts.{goes};
+ghost use Rattle.values.specs.Order.{first, unless};
+ghost use Rattle.engine.specs.Turns.{outcome_of, NextTurn, HasTurn, GoesReady, Long, Performed, count_tests};
 ghost use Rattle.scripts.specs.Sparing.{ScriptLaws};
 ghost use Rattle.scripts.specs.Running.{Running, is_live, moved, Steps};
 ghost use Rattle.histories.specs.Histories.{CarriesOn, CarriesOff, EveryHistoryIsSafe};
 ghost use Rattle.engine.specs.View.{view};
 
-use crate::performing::{
-    base, branch, close, land, push, push_from, send_selector, send_special, store_to,
-};
 use crate::runs::Run;
 use crate::turns::{Turn, Went};
-use hosts::Host;
-use parcels::{Instruction, Operation, Reader};
-use scripts::State;
+use hosts::{Host, Row};
+use parcels::{Operation, Reader};
+use scripts::{State, Stop};
 use values::{Fault, Rule, Value};
 
-impl Run<'_> {
+impl<'a> Run<'a> {
     // The instruction at the place of a live run, with what acceptance gives of it.
-    fn fetch(&self) -> Turn
+    fn fetch(&self) -> Turn<'a>
         requires { self.now.state ≡ Live }
         ensures { NextTurn (view self.now) result }
     {
         let parcel = self.parcel;
         let mut reader = Reader::at(parcel.code, self.place);
-        match reader.advance() {
-            Ok((instruction, _)) => match Operation::of(instruction.opcode) {
-                Some(operation) => {
-                    let effect = operation.effect(instruction);
-                    let after = self.height - effect.takes as usize + effect.leaves as usize;
-                    Turn {
-                        instruction,
-                        operation,
-                        next: reader.place,
-                        height: self.height,
-                        after,
-                    }
-                }
-                None => unreachable(),
-            },
-            Err(_) => unreachable(),
+        let Ok((instruction, _)) = reader.advance() else {
+            unreachable!()
+        };
+        let Ok(operation) = Operation::try_from(instruction.opcode) else {
+            unreachable!()
+        };
+        let effect = operation.effect(instruction);
+        let after = self.height - effect.takes as usize + effect.leaves as usize;
+        Turn {
+            parcel,
+            variables: self.variables,
+            instruction,
+            operation,
+            next: reader.place,
+            height: self.height,
+            after,
         }
     }
 
-    // The instruction at the place; for a run that is not live, one that does nothing.
-    fn peek(&self) -> Turn
-        ensures { self.now.state ≡ Live → NextTurn (view self.now) result }
+    // The next turn of a live run, with its operation in front; no other run has one.
+    fn peek(&self) -> Option<(Operation, Turn<'a>)>
+        ensures { HasTurn (view self.now) result }
     {
         match self.state {
-            State::Live => self.fetch(),
-            _ => Turn {
-                instruction: Instruction {
-                    opcode: 0,
-                    argument: 0,
-                    pairs: 0,
-                },
-                operation: Operation::Line,
-                next: 0,
-                height: 0,
-                after: 0,
-            },
+            State::Live => {
+                let turn = self.fetch();
+                Some((turn.operation, turn))
+            }
+            State::Ended { .. } | State::Stopped(_) => None,
         }
     }
 
-    // Why a live run is not stepped: the host's counts are not those noted, or the frame is too short.
-    fn refusal<H: Host>(&self, host: &H, cells: usize) -> Option<Fault>
-        ensures answer { result ≡ (if is_live self.now.state then first (count_tests (view self.now) (H.means host.now) cells) else None) }
-        ensures long { IfNone result (self.now.state ≡ Live → Long (parts self.now.parcel) cells) }
+    // Refuses to step a live run if the host's counts are not those noted, or the frame is too short.
+    fn check_counts<H: Host>(&self, host: &H, cells: usize) -> Result<(), Fault>
+        ensures answer { result ≡ (if is_live self.now.state then unless (first (count_tests (view self.now) (H.means host.now) cells)) tt else Ok tt) }
+        ensures long { OnOk result (self.now.state ≡ Live → Long (parts self.now.parcel) cells) }
     {
-        match self.state {
-            State::Live => {}
-            _ => return None,
+        let State::Live = self.state else {
+            return Ok(());
+        };
+        if host.count(Row::Variables) != self.variables
+            || host.count(Row::Bindings) != self.bindings
+        {
+            return Err(Rule::CountsDiffer.at(self.place));
         }
-        if host.variable_count() != self.variables || host.binding_count() != self.bindings {
-            return Some(Fault {
-                rule: Rule::CountsDiffer,
-                place: self.place,
-            });
+        if cells < self.parcel.layout.cells() {
+            return Err(Rule::StepFrameShort.at(self.place));
         }
-        let layout = self.parcel.layout;
-        if cells < layout.arguments as usize + layout.slots as usize {
-            return Some(Fault {
-                rule: Rule::StepFrameShort,
-                place: self.place,
-            });
-        }
-        None
+        Ok(())
     }
 
-    // Performs a turn of a live run: the run's own state and the operation are read together.
+    // Performs the turn of a live run: the run's own state and the operation are read together, in one match that the compiler sees to be whole.
     fn perform<H: Host>(
         &mut self,
-        turn: Turn,
+        next: Option<(Operation, Turn)>,
         host: &mut H,
         frame: &mut [Value],
     ) -> Result<Went, Fault>
-        requires turn { self.old.state ≡ Live → NextTurn (view self.old) turn }
+        requires next { HasTurn (view self.old) next }
         requires long { self.old.state ≡ Live → Long (parts self.old.parcel) (length frame.old) }
         ensures run { view self.new ≡ view self.old }
-        ensures went { Performed H.means H.may (view self.old) turn host.old frame.old result host.new frame.new }
+        ensures went { Performed H.means H.may (view self.old) next.entry host.old frame.old result host.new frame.new }
     {
-        let parcel = self.parcel;
-        let variables = self.variables;
-        match (self.state, turn.operation) {
-            (State::Ended { how: _, value: _ } | State::Stopped(_), _) => Err(Fault {
-                rule: Rule::RunNotLive,
-                place: self.place,
-            }),
-            (State::Live, Operation::Send) => Ok(send_special(
-                parcel, turn, variables, host, frame,
-            )),
-            (State::Live, Operation::SendSelector { is_super }) => Ok(send_selector(
-                parcel, turn, variables, is_super, host, frame,
-            )),
-            (State::Live, Operation::Push(source)) => Ok(push_from(
-                parcel, turn, variables, source, host, frame,
-            )),
-            (State::Live, Operation::Store(target)) => Ok(store_to(
-                parcel, turn, variables, target, host, frame,
-            )),
-            (State::Live, Operation::Jump(direction)) => Ok(Went::On {
-                place: land(parcel, turn, direction),
-                height: turn.after,
-            }),
-            (State::Live, Operation::Branch { when }) => Ok(branch(
-                parcel, turn, variables, when, host, frame,
-            )),
-            (State::Live, Operation::Pop | Operation::Line) => Ok(Went::On {
-                place: turn.next,
-                height: turn.after,
-            }),
-            (State::Live, Operation::Duplicate) => {
-                let v = frame[base(parcel) + (turn.height - 1)];
-                Ok(push(parcel, turn, variables, v, host, frame))
+        match (self.state, next) {
+            (State::Ended { .. } | State::Stopped(_), _) => Err(Rule::RunNotLive.at(self.place)),
+            (State::Live, None) => unreachable!(),
+            (State::Live, Some((Operation::Send, turn))) => Ok(turn.send_special(host, frame)),
+            (State::Live, Some((Operation::SendSelector { is_super }, turn))) => {
+                Ok(turn.send_selector(is_super, host, frame))
             }
-            (State::Live, Operation::Close) => Ok(close(parcel, turn, variables, host, frame)),
-            (State::Live, Operation::End(how)) => Ok(Went::Ended {
+            (State::Live, Some((Operation::Push(source), turn))) => {
+                Ok(turn.push_from(source, host, frame))
+            }
+            (State::Live, Some((Operation::Store(target), turn))) => {
+                Ok(turn.store_to(target, host, frame))
+            }
+            (State::Live, Some((Operation::Jump(direction), turn))) => Ok(Went::On {
+                place: turn.land(direction),
+                height: turn.after,
+            }),
+            (State::Live, Some((Operation::Branch { when }, turn))) => {
+                Ok(turn.branch(when, host, frame))
+            }
+            (State::Live, Some((Operation::Pop | Operation::Line, turn))) => Ok(turn.on()),
+            (State::Live, Some((Operation::Duplicate, turn))) => {
+                let v = turn.top(frame);
+                Ok(turn.push(v, frame))
+            }
+            (State::Live, Some((Operation::Close, turn))) => match turn.top(frame) {
+                Value::Block(n) => {
+                    turn.set_top(Value::Closure(n), frame);
+                    Ok(turn.on())
+                }
+                _ => Ok(Went::Stopped(Stop::NoBlock)),
+            },
+            (State::Live, Some((Operation::End(how), turn))) => Ok(Went::Ended {
                 how,
-                value: frame[base(parcel) + (turn.height - 1)],
+                value: turn.top(frame),
             }),
         }
     }
 
     // Moves a live run as its turn went.
-    fn settle(&mut self, turn: Turn, went: Went)
+    fn settle(&mut self, went: Went)
         requires live { self.old.state ≡ Live }
-        requires turn { NextTurn (view self.old) turn }
-        requires leads { (p h : ℕ) → outcome_of went ≡ goes p h → Led (parts self.old.parcel).code self.old.place turn p h }
+        requires ready { GoesReady (view self.old) went }
         ensures { view self.new ≡ moved (view self.old) (outcome_of went) }
     {
         match went {
@@ -167,17 +146,11 @@ impl Run<'_> {
     fn step_once<H: Host>(&mut self, host: &mut H, frame: &mut [Value]) -> Result<(), Fault>
         ensures { Steps H.means H.may (view self.old) host.old frame.old result (view self.new) host.new frame.new }
     {
-        let turn = self.peek();
-        if let Some(fault) = self.refusal(host, frame.len()) {
-            return Err(fault);
-        }
-        match self.perform(turn, host, frame) {
-            Ok(went) => {
-                self.settle(turn, went);
-                Ok(())
-            }
-            Err(fault) => Err(fault),
-        }
+        let next = self.peek();
+        self.check_counts(host, frame.len())?;
+        let went = self.perform(next, host, frame)?;
+        self.settle(went);
+        Ok(())
     }
 
     // Makes one step on a host with a frame: one instruction, or a refusal that leaves everything. Every list of opening, stepping and collecting

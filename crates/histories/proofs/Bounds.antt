@@ -1,7 +1,7 @@
 -- The script of an instruction that keeps the rules stays within the counts.
-use Rattle.std.proofs.Common.{◌≡◌, ℕ, zero, suc, ◌+◌, ◌-◌, ◌*◌, ◌/◌, ◌%◌, ◌<◌, ◌≤◌, Bool, true, false, cond, not, ltb, List, length, pos, is_some, Some, None, Option, sym, refl, ap, subst, arith}
+use Rattle.std.proofs.Common.{◌≡◌, ℕ, zero, suc, ◌+◌, ◌-◌, ◌*◌, ◌/◌, ◌%◌, ◌<◌, ◌≤◌, Bool, true, false, cond, ltb, List, length, pos, is_some, Some, None, Option, sym, refl, ap, subst, arith}
 use Rattle.std.specs.Option.{option_map}
-use Rattle.std.proofs.lemmas.Bool.{leb-false, ltb-false, lt-ltb}
+use Rattle.std.proofs.lemmas.Bool.{not-false, leb-false, ltb-false, lt-ltb}
 use Rattle.values.specs.Small.{in_range, small_if}
 use Rattle.values.specs.declared.small.SmallInteger.{SmallInteger}
 use Rattle.values.specs.declared.kinds.Value.{Value}
@@ -24,16 +24,12 @@ use Rattle.scripts.specs.Running.{ground_of, base_of, cells_of}
 use Rattle.scripts.specs.Scripts.{Script, read_cell, write_cell, read_binding, write_binding, send, go, must_be_boolean, choose, given, selector_of, binding_of, constant_of, special, integer, pushing, sending, script_of, Within}
 use Rattle.histories.proofs.Operations.{chosen, either, closed}
 
-not_false : (x : Bool) → not x ≡ false → x ≡ true
-not_false true e = refl
-not_false false e = let z : ◌≡◌ {A = ℕ} 0 1 = cc in absurd (omega arith)
-
 -- a literal that is there has a number below the count
 pub literal_there : (ls : List ℕ) (n k : ℕ) (l : Literal) → length ls ≡ 6 * n → literal ls k ≡ Some l → k < n
 literal_there ls n k l long e = by (ltb (length ls) (6 * k + 6)) refl e
   where
     by : (b : Bool) → ltb (length ls) (6 * k + 6) ≡ b → cond b None (entry ls k) ≡ Some l → k < n
-    by true f q = let z : ◌≡◌ {A = ℕ} 0 1 = cc in absurd (omega arith)
+    by true f q = absurd cc
     by false f q = omega (arith, ltb-false _ _ f, long)
 
 -- a number below 2 ^ 29 is a small integer
@@ -42,7 +38,7 @@ integer_there a h = let s = by (in_range (pos a)) refl (lt-ltb a 1073741824 (ome
   where
     by : (b : Bool) (e : in_range (pos a) ≡ b) → in_range (pos a) ≡ true → (s : SmallInteger) × (small_if (pos a) b e ≡ Some s)
     by true e t = (_, refl)
-    by false e t = let z : ◌≡◌ {A = ℕ} 0 1 = cc in absurd (omega arith)
+    by false e t = absurd cc
 
 special_there : (a : ℕ) → a < 3 → (v : Value) × (special a ≡ Some v)
 special_there zero h = (Nil, refl)
@@ -66,22 +62,22 @@ module _ (p : Parts) (i : Instruction) (next h vars bindings : ℕ) (long : leng
   pub stays_within : (o : Operation) → operand_wrong p vars i.argument o ≡ false → lands_wrong p.code next i.argument (flow_of o) ≡ false
       → (effect_of o i).takes ≤ h → after (effect_of o i) h ≤ limit_of p.layout → In (script_of (ground_of p) i next h o)
   stays_within Send e l n w = sends Send false i.opcode (count_of i.opcode) n
-  stays_within (SendSelector s) e l n w = by (literal p.literals (i.argument / 256)) refl (not_false _ e)
+  stays_within (SendSelector s) e l n w = by (literal p.literals (i.argument / 256)) refl (not-false _ e)
     where
       by : (x : Option Literal) → literal p.literals (i.argument / 256) ≡ x → selects x (i.argument % 256) ≡ true
           → (i.argument / 256 < p.layout.literals) × In (given (selector_of x) (λ m. sending (ground_of p) i next h (SendSelector s) s m (i.argument % 256)))
-      by None q t = let z : ◌≡◌ {A = ℕ} 0 1 = cc in absurd (omega arith)
-      by (Some (Constant v)) q t = let z : ◌≡◌ {A = ℕ} 0 1 = cc in absurd (omega arith)
+      by None q t = absurd cc
+      by (Some (Constant v)) q t = absurd cc
       by (Some (Selector m c)) q t = (literal_there p.literals p.layout.literals (i.argument / 256) (Selector m c) long q, sends (SendSelector s) s m (i.argument % 256) n)
-      by (Some (Binding m)) q t = let z : ◌≡◌ {A = ℕ} 0 1 = cc in absurd (omega arith)
+      by (Some (Binding m)) q t = absurd cc
   stays_within (Push source.Cell) e l n w = let g = leb-false _ _ e in (omega arith, λ v. pushes (Push source.Cell) v (omega arith))
-  stays_within (Push source.Binding) e l n w = by (literal p.literals i.argument) refl (not_false _ e)
+  stays_within (Push source.Binding) e l n w = by (literal p.literals i.argument) refl (not-false _ e)
     where
       by : (x : Option Literal) → literal p.literals i.argument ≡ x → binds x ≡ true
           → (i.argument < p.layout.literals) × In (given (binding_of x) (λ m. read_binding m (pushing (ground_of p) i next h (Push source.Binding))))
-      by None q t = let z : ◌≡◌ {A = ℕ} 0 1 = cc in absurd (omega arith)
-      by (Some (Constant v)) q t = let z : ◌≡◌ {A = ℕ} 0 1 = cc in absurd (omega arith)
-      by (Some (Selector m c)) q t = let z : ◌≡◌ {A = ℕ} 0 1 = cc in absurd (omega arith)
+      by None q t = absurd cc
+      by (Some (Constant v)) q t = absurd cc
+      by (Some (Selector m c)) q t = absurd cc
       by (Some (Binding m)) q t = (literal_there p.literals p.layout.literals i.argument (Binding m) long q, (bound i.argument m q, λ v. pushes (Push source.Binding) v (omega arith)))
   stays_within (Push source.Variable) e l n w = (leb-false _ _ e, λ v. pushes (Push source.Variable) v (omega arith))
   stays_within (Push source.Integer) e l n w =
@@ -90,39 +86,39 @@ module _ (p : Parts) (i : Instruction) (next h vars bindings : ℕ) (long : leng
   stays_within (Push source.Special) e l n w =
       let x = special_there i.argument (leb-false _ _ e) in
       subst (λ (o : Option Value). In (given o (pushing (ground_of p) i next h (Push source.Special)))) (sym x.1) (pushes (Push source.Special) x.0 (omega arith))
-  stays_within (Push source.Literal) e l n w = by (literal p.literals i.argument) refl (not_false _ e)
+  stays_within (Push source.Literal) e l n w = by (literal p.literals i.argument) refl (not-false _ e)
     where
       by : (x : Option Literal) → literal p.literals i.argument ≡ x → constant x ≡ true
           → (i.argument < p.layout.literals) × In (given (constant_of x) (pushing (ground_of p) i next h (Push source.Literal)))
-      by None q t = let z : ◌≡◌ {A = ℕ} 0 1 = cc in absurd (omega arith)
+      by None q t = absurd cc
       by (Some (Constant v)) q t = (literal_there p.literals p.layout.literals i.argument (Constant v) long q, pushes (Push source.Literal) v (omega arith))
-      by (Some (Selector m c)) q t = let z : ◌≡◌ {A = ℕ} 0 1 = cc in absurd (omega arith)
-      by (Some (Binding m)) q t = let z : ◌≡◌ {A = ℕ} 0 1 = cc in absurd (omega arith)
+      by (Some (Selector m c)) q t = absurd cc
+      by (Some (Binding m)) q t = absurd cc
   stays_within (Push source.Receiver) e l n w = λ v. pushes (Push source.Receiver) v (omega arith)
   stays_within (Store target.Cell) e l n w = let g = leb-false _ _ e in (omega arith, λ v. (omega arith, tt))
-  stays_within (Store target.Binding) e l n w = by (literal p.literals i.argument) refl (not_false _ e)
+  stays_within (Store target.Binding) e l n w = by (literal p.literals i.argument) refl (not-false _ e)
     where
       by : (x : Option Literal) → literal p.literals i.argument ≡ x → binds x ≡ true
           → (i.argument < p.layout.literals) × In (given (binding_of x) (λ m. read_cell (base_of p + (h - 1)) (λ v.
           write_binding m v (write_cell (base_of p + (h - 1)) Nil (go next (after (effect_of (Store target.Binding) i) h))))))
-      by None q t = let z : ◌≡◌ {A = ℕ} 0 1 = cc in absurd (omega arith)
-      by (Some (Constant v)) q t = let z : ◌≡◌ {A = ℕ} 0 1 = cc in absurd (omega arith)
-      by (Some (Selector m c)) q t = let z : ◌≡◌ {A = ℕ} 0 1 = cc in absurd (omega arith)
+      by None q t = absurd cc
+      by (Some (Constant v)) q t = absurd cc
+      by (Some (Selector m c)) q t = absurd cc
       by (Some (Binding m)) q t = (literal_there p.literals p.layout.literals i.argument (Binding m) long q, (omega arith, λ v. (bound i.argument m q, (omega arith, tt))))
   stays_within (Store target.Variable) e l n w = (omega arith, λ v. (leb-false _ _ e, tt))
-  stays_within (Jump d) e l n w = by (landing_of p.code d next i.argument) (not_false _ l)
+  stays_within (Jump d) e l n w = by (landing_of p.code d next i.argument) (not-false _ l)
     where
       by : (x : Option ℕ) → is_some x ≡ true → In (given x (λ q. go q (after (effect_of (Jump d) i) h)))
-      by None t = let z : ◌≡◌ {A = ℕ} 0 1 = cc in absurd (omega arith)
+      by None t = absurd cc
       by (Some q) t = tt
-  stays_within (Branch w) e l n wi = by (landing_of p.code Forward next i.argument) (not_false _ l)
+  stays_within (Branch w) e l n wi = by (landing_of p.code Forward next i.argument) (not-false _ l)
     where
       by : (x : Option ℕ) → is_some x ≡ true → In (given x (λ q. read_cell (base_of p + (h - 1)) (λ v.
           choose v
           (cond w (go q (after (effect_of (Branch w) i) h)) (go next (after (effect_of (Branch w) i) h)))
           (cond w (go next (after (effect_of (Branch w) i) h)) (go q (after (effect_of (Branch w) i) h)))
           (send (must_be_boolean v) (λ _. go q (after (effect_of (Branch w) i) h))))))
-      by None t = let z : ◌≡◌ {A = ℕ} 0 1 = cc in absurd (omega arith)
+      by None t = absurd cc
       by (Some q) t = (omega arith, λ v. chosen In v (either In w tt tt) (either In w tt tt) (λ _. tt))
   stays_within Pop e l n w = tt
   stays_within Duplicate e l n w = (omega arith, λ v. pushes Duplicate v (omega arith))

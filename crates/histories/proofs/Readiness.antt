@@ -1,9 +1,12 @@
 -- From acceptance to readiness, and from readiness to the next script.
-use Rattle.std.proofs.Common.{◌≡◌, ℕ, ◌+◌, ◌*◌, ◌<◌, ◌≤◌, Bool, true, false, cond, eqb, List, length, drop, Some, sym, refl, ap, ◌∙◌, subst, inl, inr, arith, length-drop, length-take}
+use Rattle.std.proofs.Common.{◌≡◌, ℕ, ◌+◌, ◌*◌, ◌<◌, ◌≤◌, Bool, true, false, List, length, drop, sym, refl, ap, ◌∙◌, subst, inl, inr, arith, length-drop, length-take}
 use lib.ListN.{length-replicate}
 use Rattle.std.proofs.lemmas.Bool.{cases_lt}
+use Rattle.std.proofs.lemmas.Option.{same_Some}
 use Rattle.hosts.specs.Meaning.{Marks}
-use Rattle.parcels.specs.Layouts.{limit_of, kind, literal_count, method_layout, block_layout}
+use Rattle.parcels.specs.declared.layout.Kind.{Kind}
+use Rattle.parcels.specs.declared.layout.Kind.TheVariants.{Method, Block}
+use Rattle.parcels.specs.Layouts.{limit_of, kind_in, literal_count, laid_as}
 use Rattle.parcels.specs.Opcodes.{operation_of, effect_of, after, flow_of}
 use Rattle.parcels.specs.Parts.{Parts}
 use Rattle.parcels.specs.Reading.{read_at, starts_at}
@@ -31,7 +34,7 @@ rules_copied p m n t q e k = record {
   stands = k.stands;
   operand = subst (λ (v : ℕ). operand_wrong p v k.instruction.argument k.operation ≡ false) e k.operand;
   clear = k.clear;
-  unmarked = λ x. let z : ◌≡◌ {A = ℕ} 0 1 = cc in absurd (omega arith);
+  unmarked = λ x. absurd cc;
   returns = k.returns;
   lands = k.lands;
   closure = λ x.
@@ -41,11 +44,11 @@ rules_copied p m n t q e k = record {
 
 -- the layout has the literals of the header, whatever the kind
 same_literals : (b : List ℕ) → (parcel b).layout.literals ≡ literal_count b
-same_literals b = by (eqb (kind b) 0)
+same_literals b = by (kind_in b)
   where
-    by : (c : Bool) → (cond c (method_layout (header b)) (block_layout (header b))).literals ≡ literal_count b
-    by true = refl
-    by false = refl
+    by : (k : Kind) → (laid_as k (header b)).literals ≡ literal_count b
+    by Method = refl
+    by Block = refl
 
 -- an accepted parcel is ready at its beginning
 pub accepted_ready : (m : Marks) (t : Bool) (b : List ℕ) → Keeps m t b → Ready (parcel b) (length m.variables) (length m.bindings) 0 0
@@ -72,12 +75,9 @@ pub accepted_open : (m : Marks) (b : List ℕ) → Keeps m false b → (p : ℕ)
 accepted_open m b k p i o s t =
     let r = k.in_encoding.each p s in
     let same = same_read (parcel b).code p r.instruction i r.stands.rest t.rest r.stands.read t.read in
-    let does : r.operation ≡ o = same_operation (sym r.stands.known ∙ ap (λ (j : Instruction). operation_of j.opcode) same ∙ t.known) in
+    let does : r.operation ≡ o = same_Some _ _ (sym r.stands.known ∙ ap (λ (j : Instruction). operation_of j.opcode) same ∙ t.known) in
     subst (λ (j : Instruction). stores_trusted m (parcel b).literals j.argument o ≡ false) same
     (subst (λ (x : Operation). stores_trusted m (parcel b).literals r.instruction.argument x ≡ false) does (r.unmarked refl))
-  where
-    same_operation : {x y : Operation} → Some x ≡ Some y → x ≡ y
-    same_operation e = cc
 
 -- a path is where an instruction starts
 pub path_starts : (code : List ℕ) (limit : ℕ) → 0 < length code → KeepsHeights code limit → {q h : ℕ} → Path code q h → starts_at code q ≡ true

@@ -2,6 +2,7 @@
 use Rattle.std.proofs.Common.{◌≡◌, ℕ, zero, suc, ◌+◌, ◌*◌, ◌<◌, ◌≤◌, Bool, true, false, cond, not, ◌&&◌, eqb, ltb, ◌⊎◌, List, [], ◌∷◌, ◌++◌, map, length, get_or, set, is_ok, Some, None, Ok, Err, Option, Result, sym, refl, ap, ◌∙◌, subst, inl, inr, arith}
 use Rattle.std.proofs.lemmas.List.{get_or-set_same, get_or-set_other, get_or_past}
 use Rattle.std.proofs.lemmas.Bool.{cases_eq, cases_lt, eq-eqb, le-ltb}
+use Rattle.std.proofs.lemmas.Option.{none-some, same_Some}
 use Rattle.values.specs.Order.{first}
 use Rattle.values.specs.declared.faults.Fault.{Fault}
 use Rattle.values.specs.declared.kinds.Value.{Value}
@@ -50,10 +51,7 @@ placed s = let r = s.ready in record { starts = starts s; reached = r.path; only
 
 -- the runs that are held after one of them changed
 held_length : (rs : Runs) (k : ℕ) (run : Running) → Holds rs k run → k < length rs
-held_length rs k run e = elim (cases_lt k (length rs)) [ inl l ↦ l | inr l ↦ absurd (no_none (sym (get_or_past rs k None l) ∙ e)) ]
-  where
-    no_none : ◌≡◌ {A = Option Running} None (Some run) → ⊥
-    no_none q = let z : ◌≡◌ {A = ℕ} 0 1 = cc in omega arith
+held_length rs k run e = elim (cases_lt k (length rs)) [ inl l ↦ l | inr l ↦ absurd (none-some run (sym (get_or_past rs k None l) ∙ e)) ]
 
 after_set : (rs : Runs) (k : ℕ) (old : Running) (x : Option Running) (j : ℕ) (run : Running) → Holds rs k old → Holds (set rs k x) j run → ((j ≡ k) × (x ≡ Some run)) ⊎ Holds rs j run
 after_set rs k old x j run at e = elim (cases_eq j k) [
@@ -61,12 +59,9 @@ after_set rs k old x j run at e = elim (cases_eq j k) [
   | inr ne ↦ inr (sym (get_or-set_other rs k j x None ne) ∙ e)
 ]
 
-same_run : {x y : Running} → ◌≡◌ {A = Option Running} (Some x) (Some y) → x ≡ y
-same_run e = cc
-
 after_taken : (rs : Runs) (j : ℕ) (run : Running) → Holds (rs ++ (Some empty ∷ [])) j run → (run ≡ empty) ⊎ Holds rs j run
-after_taken [] zero run e = inl (sym (same_run e))
-after_taken [] (suc j) run e = let z : ◌≡◌ {A = ℕ} 0 1 = cc in absurd (omega arith)
+after_taken [] zero run e = inl (sym (same_Some _ _ e))
+after_taken [] (suc j) run e = absurd cc
 after_taken (r ∷ rs) zero run e = inr e
 after_taken (r ∷ rs) (suc j) run e = after_taken rs j run e
 
@@ -98,11 +93,11 @@ module _ {S : Type 0} (means : S → Meaning) (may : S → Sent → Value → S 
       (ap is_live l) (eq-eqb _ _ v) (eq-eqb _ _ b) (le-ltb _ _ c) _ _ _
     where
       all : (x y z w : Bool) → x ≡ true → y ≡ true → z ≡ true → w ≡ false → (a b c : Fault) → cond (not x) (Some a) (cond (not (y && z)) (Some b) (cond w (Some c) None)) ≡ None
-      all true true true true p q r t a b c = let z : ◌≡◌ {A = ℕ} 0 1 = cc in absurd (omega arith)
+      all true true true true p q r t a b c = absurd cc
       all true true true false p q r t a b c = refl
-      all true true false w p q r t a b c = let z : ◌≡◌ {A = ℕ} 0 1 = cc in absurd (omega arith)
-      all true false z w p q r t a b c = let z : ◌≡◌ {A = ℕ} 0 1 = cc in absurd (omega arith)
-      all false y z w p q r t a b c = let z : ◌≡◌ {A = ℕ} 0 1 = cc in absurd (omega arith)
+      all true true false w p q r t a b c = absurd cc
+      all true false z w p q r t a b c = absurd cc
+      all false y z w p q r t a b c = absurd cc
 
   module _ (run : Running) (m : Marks) (t : Bool) (sound : Sound m t run) (s : S) (f : List Value) (a : Answer) (run' : Running) (s' : S) (f' : List Value) (st : Made run s f a run' s' f') where
     i : Instruction
@@ -151,8 +146,8 @@ module _ {S : Type 0} (means : S → Meaning) (may : S → Sent → Value → S 
     stopped_from x e = by st.outcome (sym (ap (λ (r : Running). r.state) st.run_is) ∙ e)
       where
         by : (y : Outcome) → (moved run y).state ≡ Stopped x → y ≡ stops x
-        by (goes p h) q = let z : ◌≡◌ {A = ℕ} 0 1 = cc in absurd (omega arith)
-        by (ends w v) q = let z : ◌≡◌ {A = ℕ} 0 1 = cc in absurd (omega arith)
+        by (goes p h) q = absurd cc
+        by (ends w v) q = absurd cc
         by (stops y) q = let same : y ≡ x = cc in ap stops same
 
     goes_on : GoesOn means may run s f a run'
@@ -235,7 +230,7 @@ module _ {S : Type 0} (means : S → Meaning) (may : S → Sent → Value → S 
       by (Ok top) e = accepted top e (first (open_tests (parcel b) args f))
 
   kept_up : {s₀ s : S} {rs : Runs} (past : History means may s₀ s rs) → KeptUp s₀ s rs past
-  kept_up {s₀} new = record { same = like_same refl; runs = λ k run e l. let z : ◌≡◌ {A = ℕ} 0 1 = cc in absurd (omega arith); cells = λ u. kept_same (means s₀) (means s₀) refl }
+  kept_up {s₀} new = record { same = like_same refl; runs = λ k run e l. absurd cc; cells = λ u. kept_same (means s₀) (means s₀) refl }
   kept_up (taken {s} {rs} past) = by (kept_up past)
     where
       by : {s₀ : S} {past : History means may s₀ s rs} → KeptUp s₀ s rs past → KeptUp s₀ s (rs ++ (Some empty ∷ [])) (taken past)
@@ -257,7 +252,7 @@ module _ {S : Type 0} (means : S → Meaning) (may : S → Sent → Value → S 
       by {s₀} {past} x o = record {
         same = x.same;
         runs = λ j r e l. elim (after_set rs k run (Some (opened (means s) t b args f hs ws run).run) j r at e) [
-          | inl q ↦ changed r (same_run q.1) l o
+          | inl q ↦ changed r (same_Some _ _ q.1) l o
           | inr q ↦ (let y = x.runs j r q l in (y.0, (λ u. y.1 u.1), y.2))
         ];
         cells = λ u. x.cells u.1;
@@ -275,7 +270,7 @@ module _ {S : Type 0} (means : S → Meaning) (may : S → Sent → Value → S 
           record {
             same = like_trans x.same (like_same r.2);
             runs = λ j w q l. elim (after_set rs k run (Some run') j w at q) [
-              | inl p ↦ (let same : run ≡ w = sym r.1 ∙ same_run p.1 in
+              | inl p ↦ (let same : run ≡ w = sym r.1 ∙ same_Some _ _ p.1 in
                   let z = x.runs k run at (ap (λ (v : Running). v.state) same ∙ l) in (z.0, z.1, subst (λ (v : Running). Sound (marks_of (means s₀)) z.0 v) same z.2))
               | inr p ↦ x.runs j w p l
             ];
@@ -291,8 +286,8 @@ module _ {S : Type 0} (means : S → Meaning) (may : S → Sent → Value → S 
               | inl p ↦ (
                 z.0,
                 z.1,
-                subst (λ (v : Running). Sound (marks_of (means s₀)) z.0 v) (same_run p.1)
-                    (still_sound run (marks_of (means s₀)) z.0 z.2 s f a run' s' f' d (ap (λ (v : Running). v.state) (same_run p.1) ∙ l)),
+                subst (λ (v : Running). Sound (marks_of (means s₀)) z.0 v) (same_Some _ _ p.1)
+                    (still_sound run (marks_of (means s₀)) z.0 z.2 s f a run' s' f' d (ap (λ (v : Running). v.state) (same_Some _ _ p.1) ∙ l)),
               )
               | inr p ↦ x.runs j w p l
             ];

@@ -6,6 +6,8 @@ use Rattle.values.specs.Faults.{fault}
 use Rattle.values.specs.declared.kinds.Value.{Value}
 use Rattle.values.specs.declared.faults.Fault.{Fault}
 use Rattle.values.specs.declared.faults.Rule.TheVariants.{CellMissing}
+use Rattle.hosts.specs.declared.rows.Row.{Row}
+use Rattle.hosts.specs.declared.rows.Row.TheVariants.{Variables, Bindings}
 
 -- a variable or a binding: its mark, open or trusted, and its value
 pub record Cell : Type 0 where
@@ -55,6 +57,16 @@ with_variable m i v = record { receiver = m.receiver; variables = put m.variable
 -- the meaning with v in binding i
 abbrev pub with_binding : Meaning → ℕ → Value → Meaning
 with_binding m i v = record { receiver = m.receiver; variables = m.variables; bindings = put m.bindings i v; understands = m.understands }
+
+-- the cells of a row
+abbrev pub row_of : Meaning → Row → List Cell
+row_of m Variables = m.variables
+row_of m Bindings = m.bindings
+
+-- the meaning with v in cell i of a row
+abbrev pub with_cell : Meaning → Row → ℕ → Value → Meaning
+with_cell m Variables i v = with_variable m i v
+with_cell m Bindings i v = with_binding m i v
 
 -- as many cells with the same marks, and the same values in the trusted ones
 abbrev pub OpenOnly : List Cell → List Cell → Type 0

@@ -1,10 +1,12 @@
 // The interface of a host, and what a host means.
 ghost use Rattle.std.specs.Prelude.{◌≡◌, ◌≤◌, length};
 ghost use Rattle.values.specs.declared.kinds.Value.{Value};
-ghost use Rattle.hosts.specs.Meaning.{Meaning, Sent, Kept, mark_of, value_at, place_of, with_variable, with_binding, Answered};
+ghost use Rattle.hosts.specs.Meaning.{Meaning, Sent, Kept, row_of, with_cell, mark_of, value_at, place_of, Answered};
 ghost use Rattle.hosts.specs.Sending.{sent};
+ghost use Rattle.hosts.specs.declared.rows.Row.{Row};
 
 use crate::messages::Message;
+use crate::rows::Row;
 use values::{Fault, Value};
 
 pub trait Host {
@@ -17,35 +19,22 @@ pub trait Host {
     fn receiver(&self) -> Value
         ensures { result ≡ (means self.now).receiver };
 
-    fn variable_count(&self) -> usize
-        ensures { result ≡ length (means self.now).variables };
+    // How many cells a row has.
+    fn count(&self, row: Row) -> usize
+        ensures { result ≡ length (row_of (means self.now) row) };
 
-    fn binding_count(&self) -> usize
-        ensures { result ≡ length (means self.now).bindings };
+    // Whether cell i of a row is trusted.
+    fn trusted(&self, row: Row, i: usize) -> Result<bool, Fault>
+        ensures { result ≡ mark_of (row_of (means self.now) row) i };
 
-    // Whether variable i is trusted.
-    fn variable_trusted(&self, i: usize) -> Result<bool, Fault>
-        ensures { result ≡ mark_of (means self.now).variables i };
+    // The value of cell i of a row.
+    fn value(&self, row: Row, i: usize) -> Result<Value, Fault>
+        ensures { result ≡ value_at (row_of (means self.now) row) i };
 
-    // Whether binding i is trusted.
-    fn binding_trusted(&self, i: usize) -> Result<bool, Fault>
-        ensures { result ≡ mark_of (means self.now).bindings i };
-
-    fn variable(&self, i: usize) -> Result<Value, Fault>
-        ensures { result ≡ value_at (means self.now).variables i };
-
-    fn binding(&self, i: usize) -> Result<Value, Fault>
-        ensures { result ≡ value_at (means self.now).bindings i };
-
-    // Sets the value of variable i alone, trusted or not.
-    fn set_variable(&mut self, i: usize, v: Value) -> Result<(), Fault>
-        ensures answer { result ≡ place_of (means self.old).variables i }
-        ensures after { means self.new ≡ with_variable (means self.old) i v };
-
-    // Sets the value of binding i alone, trusted or not.
-    fn set_binding(&mut self, i: usize, v: Value) -> Result<(), Fault>
-        ensures answer { result ≡ place_of (means self.old).bindings i }
-        ensures after { means self.new ≡ with_binding (means self.old) i v };
+    // Sets the value of cell i of a row alone, trusted or not.
+    fn set_value(&mut self, row: Row, i: usize, v: Value) -> Result<(), Fault>
+        ensures answer { result ≡ place_of (row_of (means self.old) row) i }
+        ensures after { means self.new ≡ with_cell (means self.old) row i v };
 
     // Sends m once. None says that it is not understood; nothing is altered then.
     fn send(&mut self, m: &Message) -> Option<Value>
@@ -54,9 +43,6 @@ pub trait Host {
     // What may come of a message alters the values of open cells alone.
     ghost kept: { (s t : Self) (m : Sent) (v : Value) → may s m v t → Kept (means s) (means t) };
 
-    // There are at most 1,024 variables.
-    ghost few_variables: { (s : Self) → length (means s).variables ≤ 1024 };
-
-    // There are at most 1,024 bindings.
-    ghost few_bindings: { (s : Self) → length (means s).bindings ≤ 1024 };
+    // There are at most 1,024 variables, and at most 1,024 bindings.
+    ghost few: { (s : Self) (row : Row) → length (row_of (means s) row) ≤ 1024 };
 }

@@ -3,6 +3,8 @@
 
 mod interface;
 mod messages;
+mod rows;
 
 pub use interface::Host;
 pub use messages::Message;
+pub use rows::Row;

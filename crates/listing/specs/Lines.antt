@@ -1,10 +1,14 @@
 -- The line of a verdict.
-use Rattle.std.specs.Prelude.{ℕ, List, ◌++◌, codes, decimal}
-use Rattle.values.specs.Faults.{number_of}
+use Rattle.std.specs.Prelude.{ℕ, List, ◌++◌, Ok, Err, Result, codes, decimal}
+use Rattle.values.specs.Faults.{found}
+use Rattle.values.specs.declared.faults.Fault.{Fault}
 use Rattle.listing.specs.declared.verdicts.Verdict.{Verdict}
-use Rattle.listing.specs.declared.verdicts.Verdict.TheVariants.{Accepted, Refused}
 
 -- `accepted H`, or `refused N at P`, in bytes
+abbrev pub line_of : Result ℕ Fault → List ℕ
+line_of (Ok h) = codes "accepted " ++ decimal h
+line_of (Err f) = found f
+
+-- the line of a verdict
 abbrev pub line : Verdict → List ℕ
-line (Accepted h) = codes "accepted " ++ decimal h
-line (Refused f) = codes "refused " ++ (decimal (number_of f.rule) ++ (codes " at " ++ decimal f.place))
+line v = line_of v.0

@@ -1,13 +1,12 @@
--- The verdict on an untrusted parcel over the fixed week file, and the parcels tried.
-use Rattle.std.specs.Prelude.{◌≡◌, ℕ, ◌/◌, ◌%◌, false, List, [], ◌∷◌, ◌++◌, length, replicate, Ok, Err, Result}
+-- The verdict on a parcel over a host and on an untrusted one over the fixed week file, and the parcels tried.
+use Rattle.std.specs.Prelude.{◌≡◌, ℕ, ◌/◌, ◌%◌, Bool, false, List, [], ◌∷◌, ◌++◌, length, replicate, Ok, Err, Result}
 use Rattle.values.specs.Faults.{fault}
 use Rattle.values.specs.declared.faults.Fault.{Fault}
 use Rattle.values.specs.declared.faults.Rule.TheVariants.{HeightLow, CodeLeft, HeightsDiffer, LandingWrong, StoreTrusted}
-use Rattle.hosts.specs.Meaning.{marks_of}
+use Rattle.hosts.specs.Meaning.{Marks, marks_of}
 use Rattle.week_file.specs.Files.{week_meaning}
 use Rattle.stages.specs.Check.{checked}
 use Rattle.listing.specs.declared.verdicts.Verdict.{Verdict}
-use Rattle.listing.specs.declared.verdicts.Verdict.TheVariants.{Accepted, Refused}
 
 -- an open cell that holds nil
 abbrev pub open_nil : List ℕ
@@ -23,12 +22,15 @@ week = (0 ∷ 4 ∷ 0 ∷ 2 ∷ 0 ∷ 0 ∷ 0 ∷ 0 ∷ []) ++ (open_nil ++ (ope
 
 -- what a check answers, as a verdict
 abbrev pub verdict : Result ℕ Fault → Verdict
-verdict (Ok h) = Accepted h
-verdict (Err f) = Refused f
+verdict r = record { 0 = r }
+
+-- the verdict on a parcel b over a host with marks m, with lists of n entries, where t says whether the parcel is trusted
+abbrev pub verdict_on : Marks → Bool → ℕ → List ℕ → Verdict
+verdict_on m t n b = verdict (checked m t b (replicate n 0) (replicate n 0)).verdict
 
 -- the verdict on an untrusted parcel b over a week file f, with lists of n entries
 abbrev pub verdict_over : List ℕ → ℕ → List ℕ → Verdict
-verdict_over f n b = verdict (checked (marks_of (week_meaning f)) false b (replicate n 0) (replicate n 0)).verdict
+verdict_over f n b = verdict_on (marks_of (week_meaning f)) false n b
 
 -- the verdict over the fixed week file: 2,048 entries are enough for every code
 abbrev pub listed : List ℕ → Verdict
@@ -59,15 +61,15 @@ found_counting code = found_with (0 ∷ 0 ∷ 8 ∷ 64 ∷ []) code
 -- the parcels tried: their verdicts by computation
 abbrev pub Tried : Type 0
 Tried =
-    (found (56 ∷ 0 ∷ 51 ∷ 0 ∷ []) ≡ Accepted 1)
-    × (found (40 ∷ 2 ∷ []) ≡ Accepted 0)
-    × (found (51 ∷ 0 ∷ []) ≡ Refused (fault HeightLow 0))
-    × (found (56 ∷ 0 ∷ []) ≡ Refused (fault CodeLeft 0))
-    × (found (44 ∷ 1 ∷ 40 ∷ 4 ∷ []) ≡ Refused (fault HeightsDiffer 0))
-    × (found (41 ∷ 1 ∷ 56 ∷ 0 ∷ 51 ∷ 0 ∷ []) ≡ Refused (fault LandingWrong 0))
-    × (found (41 ∷ 2 ∷ 55 ∷ 0 ∷ 56 ∷ 0 ∷ 51 ∷ 0 ∷ []) ≡ Refused (fault LandingWrong 0))
-    × (found (56 ∷ 0 ∷ 39 ∷ 2 ∷ 51 ∷ 0 ∷ []) ≡ Accepted 1)
-    × (found (56 ∷ 0 ∷ 39 ∷ 3 ∷ 51 ∷ 0 ∷ []) ≡ Refused (fault StoreTrusted 2))
-    × (found (55 ∷ 3 ∷ 44 ∷ 232 ∷ 51 ∷ 0 ∷ []) ≡ Accepted 1)
-    × (found_counting (forty_turns 48) ≡ Accepted 2)
-    × (found_counting (forty_turns 54) ≡ Refused (fault HeightsDiffer 6))
+    (found (56 ∷ 0 ∷ 51 ∷ 0 ∷ []) ≡ verdict (Ok 1))
+    × (found (40 ∷ 2 ∷ []) ≡ verdict (Ok 0))
+    × (found (51 ∷ 0 ∷ []) ≡ verdict (Err (fault HeightLow 0)))
+    × (found (56 ∷ 0 ∷ []) ≡ verdict (Err (fault CodeLeft 0)))
+    × (found (44 ∷ 1 ∷ 40 ∷ 4 ∷ []) ≡ verdict (Err (fault HeightsDiffer 0)))
+    × (found (41 ∷ 1 ∷ 56 ∷ 0 ∷ 51 ∷ 0 ∷ []) ≡ verdict (Err (fault LandingWrong 0)))
+    × (found (41 ∷ 2 ∷ 55 ∷ 0 ∷ 56 ∷ 0 ∷ 51 ∷ 0 ∷ []) ≡ verdict (Err (fault LandingWrong 0)))
+    × (found (56 ∷ 0 ∷ 39 ∷ 2 ∷ 51 ∷ 0 ∷ []) ≡ verdict (Ok 1))
+    × (found (56 ∷ 0 ∷ 39 ∷ 3 ∷ 51 ∷ 0 ∷ []) ≡ verdict (Err (fault StoreTrusted 2)))
+    × (found (55 ∷ 3 ∷ 44 ∷ 232 ∷ 51 ∷ 0 ∷ []) ≡ verdict (Ok 1))
+    × (found_counting (forty_turns 48) ≡ verdict (Ok 2))
+    × (found_counting (forty_turns 54) ≡ verdict (Err (fault HeightsDiffer 6)))

@@ -1,9 +1,11 @@
-// One parcel, untrusted, over a week file that is always the same.
+// One parcel over a host, and over a week file that is always the same.
 ghost use Rattle.std.specs.Prelude.{◌≡◌, IfOk};
-ghost use Rattle.listing.specs.Listed.{week, verdict_over, listed, Tried};
+ghost use Rattle.hosts.specs.Meaning.{marks_of};
+ghost use Rattle.listing.specs.Listed.{week, verdict_on, listed, Tried};
 
 use crate::verdicts::Verdict;
 use checker::check;
+use hosts::Host;
 use std::alloc::{AllocError, Global};
 use week_file::WeekFile;
 
@@ -20,23 +22,20 @@ fn fixed_file(heap: Global) -> Result<WeekFile, AllocError>
     Ok(WeekFile::open(WEEK.to_vec(heap)?))
 }
 
-// What a check of an untrusted parcel finds over a week file.
-fn verdict_over(host: &WeekFile, parcel: &[u8]) -> Verdict
-    ensures { result ≡ verdict_over host.now.bytes.items 2048 parcel.now }
+// What a check of a parcel finds over a host. 2,048 entries are enough for every code, and lie on the stack: a check asks for no memory.
+pub fn verdict_of<H: Host>(host: &H, parcel: &[u8], trusted: bool) -> Verdict
+    ensures { result ≡ verdict_on (marks_of (H.means host.now)) trusted 2048 parcel.now }
 {
     let mut heights = [0u8; 2048];
     let mut waiting = [0u16; 2048];
-    match check(host, parcel, false, &mut heights, &mut waiting) {
-        Ok(height) => Verdict::Accepted(height),
-        Err(fault) => Verdict::Refused(fault),
-    }
+    Verdict(check(host, parcel, trusted, &mut heights, &mut waiting))
 }
 
-// The verdict on a parcel.
+// The verdict on an untrusted parcel over the fixed week file.
 pub fn list(heap: Global, parcel: &[u8]) -> Result<Verdict, AllocError>
     ensures answer { IfOk result (λ v. v ≡ listed parcel.now) }
     ensures tried { Tried }
 {
     let host = fixed_file(heap)?;
-    Ok(verdict_over(&host, parcel))
+    Ok(verdict_of(&host, parcel, false))
 }

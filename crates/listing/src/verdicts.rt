@@ -5,24 +5,17 @@ ghost use Rattle.listing.specs.Lines.{line};
 use std::fmt;
 use values::Fault;
 
-// Accepted with the greatest height, or refused.
+// The greatest height of what was accepted, or why it was refused.
 #[derive(Clone, Copy)]
-pub enum Verdict {
-    Accepted(u8),
-    Refused(Fault),
-}
+pub struct Verdict(pub Result<u8, Fault>);
 
 impl fmt::Display for Verdict {
     ghost output = { λ v. Some (line v) };
 
     fn fmt<W: fmt::Write>(&self, f: &mut fmt::Formatter<W>) -> fmt::Result {
-        match *self {
-            Verdict::Accepted(height) => write!(f, "accepted {height}"),
-            Verdict::Refused(fault) => {
-                let number = fault.number();
-                let place = fault.place();
-                write!(f, "refused {number} at {place}")
-            }
+        match self.0 {
+            Ok(height) => write!(f, "accepted {height}"),
+            Err(fault) => write!(f, "{fault}"),
         }
     }
 }

@@ -1,9 +1,11 @@
 -- The header and the flags of a parcel, and the rules that they keep.
-use Rattle.std.specs.Prelude.{◌≡◌, ℕ, ◌+◌, ◌-◌, ◌*◌, ◌/◌, ◌%◌, ◌^◌, ◌≤◌, Bool, cond, not, ◌||◌, List, [], ◌∷◌, length, Result, ◌==◌, nat_lt}
+use Rattle.std.specs.Prelude.{◌≡◌, ℕ, ◌+◌, ◌-◌, ◌*◌, ◌/◌, ◌%◌, ◌^◌, ◌≤◌, Bool, cond, not, ◌||◌, List, [], ◌∷◌, length, Some, None, Option, Result, ◌==◌, nat_lt}
 use Rattle.values.specs.Bytes.{be16, be32}
 use Rattle.values.specs.Order.{Test, test, first, unless, and_then}
 use Rattle.values.specs.declared.faults.Fault.{Fault}
 use Rattle.values.specs.declared.faults.Rule.TheVariants.{HeaderShort, KindUnknown, LiteralsTooMany, CodeTooLong, LengthWrong, FlagsReserved, LocalsOverSlots}
+use Rattle.parcels.specs.declared.layout.Kind.{Kind}
+use Rattle.parcels.specs.declared.layout.Kind.TheVariants as code
 use Rattle.parcels.specs.declared.layout.Header.{Header}
 use Rattle.parcels.specs.declared.layout.Layout.{Layout}
 use Rattle.parcels.specs.declared.layout.CodeKind.TheVariants.{Method, Block}
@@ -11,6 +13,14 @@ use Rattle.parcels.specs.declared.layout.CodeKind.TheVariants.{Method, Block}
 -- bytes 0 and 1: 0 for a method, 1 for a block
 abbrev pub kind : List ℕ → ℕ
 kind b = be16 b 0
+
+-- the kind that a number stands for
+abbrev pub kind_named : ℕ → Option Kind
+kind_named n = cond (n == 0) (Some code.Method) (cond (n == 1) (Some code.Block) None)
+
+-- the kind of bytes that keep the header rules
+abbrev pub kind_in : List ℕ → Kind
+kind_in b = cond (kind b == 0) code.Method code.Block
 
 -- bytes 2 and 3
 abbrev pub literal_count : List ℕ → ℕ
@@ -36,7 +46,7 @@ header_tests b =
 
 -- the header of bytes that keep the header rules, or the first rule that they break
 abbrev pub header_of : List ℕ → Result Header Fault
-header_of b = unless (first (header_tests b)) (record { kind = kind b; literals = literal_count b; flags = flags b; code = code_length b })
+header_of b = unless (first (header_tests b)) (record { kind = kind_in b; literals = literal_count b; flags = flags b; code = code_length b })
 
 -- the number in the w bits of x from bit low on
 abbrev pub bits : ℕ → ℕ → ℕ → ℕ
@@ -65,14 +75,22 @@ block_layout h = record {
 }
 
 -- the layout of a method or a block
+abbrev pub laid_as : Kind → Header → Layout
+laid_as code.Method h = method_layout h
+laid_as code.Block h = block_layout h
+
+-- the same, by what the header says
 abbrev pub laid_out : Header → Layout
-laid_out h = cond (h.kind == 0) (method_layout h) (block_layout h)
+laid_out h = laid_as h.kind h
 
 -- a method's bits 17 to 31, a block's bits 6 to 13, 30 and 31, are 0
+abbrev pub reserved_in : Kind → ℕ → Bool
+reserved_in code.Method f = not (bits f 17 15 == 0)
+reserved_in code.Block f = not (bits f 6 8 == 0) || not (bits f 30 2 == 0)
+
+-- the same, by what the header says
 abbrev pub reserved_set : Header → Bool
-reserved_set h =
-    cond (h.kind == 0) (not (bits h.flags 17 15 == 0))
-    (not (bits h.flags 6 8 == 0) || not (bits h.flags 30 2 == 0))
+reserved_set h = reserved_in h.kind h.flags
 
 -- the flag rules, in order
 abbrev pub flag_tests : Header → List Test

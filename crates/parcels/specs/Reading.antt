@@ -1,9 +1,16 @@
 -- What an instruction at the front of a code is.
 use Rattle.std.specs.Prelude.{ℕ, zero, suc, ◌+◌, ◌-◌, ◌*◌, ◌%◌, Bool, cond, not, ◌&&◌, List, [], ◌∷◌, length, drop, Ok, Err, Result, ◌==◌, nat_le, nat_lt, slice_index}
 use Rattle.std.specs.Borrow.{Bor}
+use Rattle.values.specs.declared.faults.Rule.{Rule}
+use Rattle.values.specs.declared.faults.Rule.TheVariants.{CodeCut, ExtensionFourth}
 use Rattle.parcels.specs.declared.reading.Unreadable.{Unreadable}
 use Rattle.parcels.specs.declared.reading.Unreadable.TheVariants.{FourthExtension, Cut}
 use Rattle.parcels.specs.declared.reading.Instruction.{Instruction}
+
+-- the rule that an unreadable instruction breaks
+abbrev pub unreadable_rule : Unreadable → Rule
+unreadable_rule FourthExtension = ExtensionFourth
+unreadable_rule Cut = CodeCut
 
 -- an instruction and the code that follows it, or why there is none
 abbrev pub Reading : Type 0

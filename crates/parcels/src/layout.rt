@@ -1,17 +1,19 @@
 // The header and the flags of a parcel.
-ghost use Rattle.std.specs.Prelude.{◌≡◌, ◌+◌, ◌*◌, ◌≤◌, length, IfOk};
-ghost use Rattle.parcels.specs.Layouts.{header_of, method_layout, block_layout, reserved_set, flagged, layout_of, limit_of, FitsIn};
+ghost use Rattle.std.specs.Prelude.{◌≡◌, ◌+◌, ◌*◌, ◌<◌, ◌≤◌, ◌^◌, length, IfOk};
+ghost use Rattle.std.specs.Option.{ok_or};
+ghost use Rattle.parcels.specs.Layouts.{header_of, bits, kind_named, laid_out, reserved_set, flagged, layout_of, limit_of, FitsIn};
 
-use values::{Fault, Rule};
+use values::{Fault, Rule, Unknown};
 
-// What the code is. A method has no chain use.
+// What the code is. A method has no chain use; an Option of the chain use would not say which of the two it is.
 #[derive(Clone, Copy, PartialEq, Eq, Debug)]
 pub enum CodeKind {
     Method,
     Block { chain: u8 },
 }
 
-// What the header and the flags say.
+// What the header and the flags say. Its fields are public, and any numbers may stand in them: a ghost field for the limits that the rules set
+// would ask more of whoever fills them.
 #[derive(Clone, Copy, PartialEq, Eq, Debug)]
 pub struct Layout {
     pub kind: CodeKind,
@@ -22,10 +24,32 @@ pub struct Layout {
     pub locals: u8,
 }
 
+// What the first two bytes say that the code is; the chain use of a block stands in its flags.
+#[derive(Clone, Copy, PartialEq, Eq, Debug)]
+pub enum Kind {
+    Method,
+    Block,
+}
+
+impl TryFrom<u16> for Kind {
+    type Error = Unknown<u16>;
+
+    ghost try_from_gives = { λ n r. r ≡ ok_or (kind_named n) (record { 0 = n }) };
+
+    // The kind that a number stands for.
+    fn try_from(number: u16) -> Result<Kind, Unknown<u16>> {
+        match number {
+            0 => Ok(Kind::Method),
+            1 => Ok(Kind::Block),
+            _ => Err(Unknown(number)),
+        }
+    }
+}
+
 // The ten bytes before the literals, with their numbers read.
 #[derive(Clone, Copy)]
 pub struct Header {
-    pub kind: u16,
+    pub kind: Kind,
     pub literals: u16,
     pub flags: u32,
     pub code: u16,
@@ -37,37 +61,21 @@ fn read_header(bytes: &[u8]) -> Result<Header, Fault>
     ensures fits { IfOk result (λ h. (10 + 6 * h.literals + h.code ≡ length bytes.now) × (h.literals ≤ 1024) × (h.code ≤ 4096)) }
 {
     let [k1, k0, n1, n0, f3, f2, f1, f0, l1, l0, ..] = bytes else {
-        return Err(Fault {
-            rule: Rule::HeaderShort,
-            place: 0,
-        });
+        return Err(Rule::HeaderShort.at(0));
     };
-    let kind = u16::from_be_bytes([*k1, *k0]);
-    if kind > 1 {
-        return Err(Fault {
-            rule: Rule::KindUnknown,
-            place: 0,
-        });
-    }
+    let Ok(kind) = Kind::try_from(u16::from_be_bytes([*k1, *k0])) else {
+        return Err(Rule::KindUnknown.at(0));
+    };
     let literals = u16::from_be_bytes([*n1, *n0]);
     if literals > 1024 {
-        return Err(Fault {
-            rule: Rule::LiteralsTooMany,
-            place: 2,
-        });
+        return Err(Rule::LiteralsTooMany.at(2));
     }
     let code = u16::from_be_bytes([*l1, *l0]);
     if code > 4096 {
-        return Err(Fault {
-            rule: Rule::CodeTooLong,
-            place: 8,
-        });
+        return Err(Rule::CodeTooLong.at(8));
     }
     if bytes.len() != 10 + 6 * literals as usize + code as usize {
-        return Err(Fault {
-            rule: Rule::LengthWrong,
-            place: 8,
-        });
+        return Err(Rule::LengthWrong.at(8));
     }
     let flags = u32::from_be_bytes([*f3, *f2, *f1, *f0]);
     Ok(Header {
@@ -78,35 +86,39 @@ fn read_header(bytes: &[u8]) -> Result<Header, Fault>
     })
 }
 
-// What the flags of a method say; the rules on them come after.
-fn method_layout(header: Header) -> Layout
-    ensures { result ≡ method_layout header }
+// The number in so many bits of the flags, from bit `low` on.
+fn bits(flags: u32, low: u32, width: u32) -> u8
+    requires { (low < 32) × (width ≤ 8) }
+    ensures number { result ≡ bits flags low width }
+    ensures small { result < 2 ^ width }
 {
-    let flags = header.flags;
-    Layout {
-        kind: CodeKind::Method,
-        literals: header.literals,
-        code: header.code,
-        arguments: (flags % 32) as u8,
-        slots: 4 * ((flags >> 5) % 64) as u8,
-        locals: ((flags >> 11) % 64) as u8,
-    }
+    ((flags >> low) % (1 << width)) as u8
 }
 
-// What the flags of a block say.
-fn block_layout(header: Header) -> Layout
-    ensures { result ≡ block_layout header }
+// What the flags of a method or a block say; the rules on them come after.
+fn lay_out(header: Header) -> Layout
+    ensures { result ≡ laid_out header }
 {
     let flags = header.flags;
-    Layout {
-        kind: CodeKind::Block {
-            chain: (flags % 64) as u8,
+    match header.kind {
+        Kind::Method => Layout {
+            kind: CodeKind::Method,
+            literals: header.literals,
+            code: header.code,
+            arguments: bits(flags, 0, 5),
+            slots: 4 * bits(flags, 5, 6),
+            locals: bits(flags, 11, 6),
         },
-        literals: header.literals,
-        code: header.code,
-        arguments: ((flags >> 25) % 32) as u8,
-        slots: 4 * ((flags >> 14) % 64) as u8,
-        locals: ((flags >> 20) % 32) as u8,
+        Kind::Block => Layout {
+            kind: CodeKind::Block {
+                chain: bits(flags, 0, 6),
+            },
+            literals: header.literals,
+            code: header.code,
+            arguments: bits(flags, 25, 5),
+            slots: 4 * bits(flags, 14, 6),
+            locals: bits(flags, 20, 5),
+        },
     }
 }
 
@@ -115,10 +127,9 @@ fn reserved(header: Header) -> bool
     ensures { result ≡ reserved_set header }
 {
     let flags = header.flags;
-    if header.kind == 0 {
-        flags >> 17 != 0
-    } else {
-        (flags >> 6) % 256 != 0 || flags >> 30 != 0
+    match header.kind {
+        Kind::Method => flags >> 17 != 0,
+        Kind::Block => bits(flags, 6, 8) != 0 || bits(flags, 30, 2) != 0,
     }
 }
 
@@ -128,21 +139,11 @@ fn read_flags(header: Header) -> Result<Layout, Fault>
     ensures fits { IfOk result (λ l. (l.literals ≡ header.literals) × (l.code ≡ header.code) × (l.slots ≤ 252)) }
 {
     if reserved(header) {
-        return Err(Fault {
-            rule: Rule::FlagsReserved,
-            place: 4,
-        });
+        return Err(Rule::FlagsReserved.at(4));
     }
-    let layout = if header.kind == 0 {
-        method_layout(header)
-    } else {
-        block_layout(header)
-    };
+    let layout = lay_out(header);
     if layout.locals > layout.slots {
-        return Err(Fault {
-            rule: Rule::LocalsOverSlots,
-            place: 4,
-        });
+        return Err(Rule::LocalsOverSlots.at(4));
     }
     Ok(layout)
 }
@@ -155,6 +156,20 @@ impl Layout {
     {
         let header = read_header(bytes)?;
         read_flags(header)
+    }
+
+    // How many cells a frame has to have: those of the arguments and the slots.
+    pub fn cells(self) -> usize
+        ensures { result ≡ self.arguments + self.slots }
+    {
+        usize::from(self.arguments) + usize::from(self.slots)
+    }
+
+    // Where the working cells begin: behind the arguments and the locals.
+    pub fn base(self) -> usize
+        ensures { result ≡ self.arguments + self.locals }
+    {
+        usize::from(self.arguments) + usize::from(self.locals)
     }
 
     // The greatest height: what the slots leave beside the locals.

@@ -8,7 +8,7 @@ mod parts;
 mod reading;
 
 pub use layout::{CodeKind, Layout};
-pub use literals::{Literal, first_wrong, literal_at};
+pub use literals::{Literal, check_literals, literal_at};
 pub use opcodes::{
     Direction, Effect, Ending, Flow, Operation, Source, Target, argument_count, landing, starts,
 };

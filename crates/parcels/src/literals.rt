@@ -1,6 +1,7 @@
 // The literals of a parcel.
 ghost use Rattle.std.specs.Prelude.{◌≡◌, ◌*◌, ◌/◌, length};
 ghost use Rattle.parcels.specs.Literals.{literal_of, entry, literal, wrong, first_wrong};
+ghost use Rattle.values.specs.Order.{unless};
 
 use values::{Fault, Rule, Value};
 
@@ -12,78 +13,60 @@ pub enum Literal {
     Binding(u32),
 }
 
+// How many bytes a literal takes.
+const ENTRY: usize = 6;
+
+// The kind byte of a selector. Below it stand those of values: the bytes of the format meet their cases here alone.
+const SELECTOR: u8 = 7;
+
+// The kind byte of a binding.
+const BINDING: u8 = 8;
+
 // The literal of a detail, a kind and a number, if they keep the rules.
 fn of_parts(detail: u8, kind: u8, number: u32) -> Option<Literal>
     ensures { result ≡ literal_of detail kind number }
 {
-    if kind == 7 {
-        return if detail <= 31 {
-            Some(Literal::Selector {
-                number,
-                arguments: detail,
-            })
-        } else {
-            None
-        };
-    }
-    if detail != 0 {
-        return None;
-    }
-    if kind == 8 {
-        return Some(Literal::Binding(number));
-    }
-    if kind > 5 {
-        return None;
-    }
-    match Value::from_parts(kind, number) {
-        Some(v) => Some(Literal::Constant(v)),
-        None => None,
-    }
-}
-
-// Literal k of a parcel's literals, if there is one and it keeps the rules.
-pub fn literal_at(literals: &[u8], k: u32) -> Option<Literal>
-    ensures { result ≡ literal literals.now k }
-{
-    let start = 6 * k as usize;
-    if literals.len() < start + 6 {
-        return None;
-    }
-    match &literals[start..start + 6] {
-        [detail, kind, a, b, c, d] => of_parts(
-            *detail,
-            *kind,
-            u32::from_be_bytes([*a, *b, *c, *d]),
-        ),
+    match (kind, detail) {
+        (SELECTOR, 0..=31) => Some(Literal::Selector {
+            number,
+            arguments: detail,
+        }),
+        (BINDING, 0) => Some(Literal::Binding(number)),
+        (0..=5, 0) => Some(Literal::Constant(Value::from_parts(kind, number)?)),
         _ => None,
     }
 }
 
-// The fault of literal k, over a host with so many bindings.
-fn fault_of(literals: &[u8], k: u32, bindings: usize) -> Option<Fault>
-    ensures { result ≡ wrong literals.now bindings k }
+// Literal k of a parcel's literals, if there is one and it keeps the rules. The literals are bytes as they lie in the parcel, since a slice of entries
+// would ask of every caller that their bytes are a multiple of six.
+pub fn literal_at(literals: &[u8], k: u32) -> Option<Literal>
+    ensures { result ≡ literal literals.now k }
+{
+    let [detail, kind, a, b, c, d, ..] = literals.get(ENTRY * k as usize..)? else {
+        return None;
+    };
+    of_parts(*detail, *kind, u32::from_be_bytes([*a, *b, *c, *d]))
+}
+
+// Checks literal k, over a host with so many bindings.
+fn check_literal(literals: &[u8], k: u32, bindings: usize) -> Result<(), Fault>
+    ensures { result ≡ unless (wrong literals.now bindings k) tt }
 {
     match literal_at(literals, k) {
-        None => Some(Fault {
-            rule: Rule::LiteralWrong,
-            place: k as usize,
-        }),
-        Some(Literal::Binding(n)) if n as usize >= bindings => Some(Fault {
-            rule: Rule::BindingMissing,
-            place: k as usize,
-        }),
-        Some(_) => None,
+        None => Err(Rule::LiteralWrong.at(k as usize)),
+        Some(Literal::Binding(n)) if n as usize >= bindings => Err(Rule::BindingMissing.at(
+            k as usize,
+        )),
+        Some(_) => Ok(()),
     }
 }
 
-// The fault of the first of so many literals, in order from number 0, that breaks a rule.
-pub fn first_wrong(literals: &[u8], count: u16, bindings: usize) -> Option<Fault>
-    ensures { result ≡ first_wrong literals.now count bindings }
+// Checks so many literals in order from number 0: the first that breaks a rule ends it. The loop goes by number, since that is the place of a fault.
+pub fn check_literals(literals: &[u8], count: u16, bindings: usize) -> Result<(), Fault>
+    ensures { result ≡ unless (first_wrong literals.now count bindings) tt }
 {
     for k in 0..count {
-        if let Some(fault) = fault_of(literals, k as u32, bindings) {
-            return Some(fault);
-        }
+        check_literal(literals, k as u32, bindings)?;
     }
-    None
+    Ok(())
 }

@@ -1,9 +1,11 @@
-// What an opcode asks: the one place that knows the opcodes by number.
+// What an opcode asks: the one place that knows the opcodes by number, but for the extension pair, which the reader knows.
 ghost use Rattle.std.specs.Prelude.{◌≡◌};
+ghost use Rattle.std.specs.Option.{ok_or};
 ghost use Rattle.parcels.specs.Opcodes.{count_of, operation_of, effect_of, flow_of, landing_of, successors_of};
 ghost use Rattle.parcels.specs.Reading.{starts_at};
 
 use crate::reading::Instruction;
+use values::Unknown;
 
 // Where a pushed value comes from.
 #[derive(Clone, Copy, PartialEq, Eq, Debug)]
@@ -80,18 +82,16 @@ const ARGUMENT_COUNTS: [u8; 25] = [
 pub fn argument_count(message: u8) -> u8
     ensures { result ≡ count_of message }
 {
-    if message < 25 {
-        ARGUMENT_COUNTS[message as usize]
-    } else {
-        0
-    }
+    ARGUMENT_COUNTS.get(message as usize).copied().unwrap_or(0)
 }
 
-impl Operation {
+impl TryFrom<u8> for Operation {
+    type Error = Unknown<u8>;
+
+    ghost try_from_gives = { λ op r. r ≡ ok_or (operation_of op) (record { 0 = op }) };
+
     // What an opcode does, if it is in the table.
-    pub fn of(opcode: u8) -> Option<Operation>
-        ensures { result ≡ operation_of opcode }
-    {
+    fn try_from(opcode: u8) -> Result<Operation, Unknown<u8>> {
         let operation = match opcode {
             0..=24 => Operation::Send,
             28 => Operation::SendSelector { is_super: false },
@@ -116,11 +116,13 @@ impl Operation {
             52 => Operation::Duplicate,
             54 => Operation::Line,
             56 => Operation::Push(Source::Receiver),
-            _ => return None,
+            _ => return Err(Unknown(opcode)),
         };
-        Some(operation)
+        Ok(operation)
     }
+}
 
+impl Operation {
     // What an instruction takes and leaves: it needs the height that it takes.
     pub fn effect(self, instruction: Instruction) -> Effect
         ensures { result ≡ effect_of self instruction }
@@ -185,15 +187,11 @@ pub fn landing(code: &[u8], direction: Direction, next: usize, by: u32) -> Optio
         Direction::Back => next.checked_sub(by as usize)?,
         Direction::Forward => next.checked_add(by as usize)?,
     };
-    if starts(code, place) {
-        Some(place)
-    } else {
-        None
-    }
+    starts(code, place).then_some(place)
 }
 
 impl Flow {
-    // The successors of an instruction, the landing place first and then the following place.
+    // The successors of an instruction, the landing place first and then the following place: no instruction has more than two.
     pub fn successors(self, code: &[u8], next: usize, by: u32) -> [Option<usize>; 2]
         ensures { result ≡ successors_of code.now self next by }
     {

@@ -1,8 +1,11 @@
 // Instructions, read off the front of a code.
 ghost use Rattle.std.specs.Prelude.{◌≡◌, ◌+◌, ◌*◌, ◌<◌, ◌≤◌, length, drop, Ok, Err};
-ghost use Rattle.parcels.specs.Reading.{reading, read_at, seen};
+ghost use Rattle.parcels.specs.Reading.{unreadable_rule, reading, read_at, seen};
 
-// A final pair with its extension pairs: the argument is their second bytes joined.
+use values::Rule;
+
+// A final pair with its extension pairs: the argument is their second bytes joined. The opcode is the byte that was read, since an instruction is read
+// before its opcode is looked up.
 #[derive(Clone, Copy, PartialEq, Eq, Debug)]
 pub struct Instruction {
     pub opcode: u8,
@@ -15,6 +18,18 @@ pub struct Instruction {
 pub enum Unreadable {
     FourthExtension,
     Cut,
+}
+
+impl From<Unreadable> for Rule {
+    ghost from_gives = { λ e r. r ≡ unreadable_rule e };
+
+    // The rule that it breaks.
+    fn from(unreadable: Unreadable) -> Rule {
+        match unreadable {
+            Unreadable::FourthExtension => Rule::ExtensionFourth,
+            Unreadable::Cut => Rule::CodeCut,
+        }
+    }
 }
 
 // The first instruction of a code, and the code that follows it.
@@ -31,6 +46,7 @@ fn take_instruction(code: &[u8]) -> Result<(Instruction, &[u8]), Unreadable>
             return Err(Unreadable::FourthExtension);
         }
         argument = argument * 256 + *b as u32;
+        // The number of pairs is a part of the answer.
         pairs += 1;
         rest = after;
     }
@@ -71,15 +87,9 @@ impl<'a> Reader<'a> {
         ensures follows { elim result [ Ok p ↦ p.1.now ≡ drop self.new.place self.old.code.now | Err e ↦ Unit {0} ] }
         ensures within { elim result [ Ok p ↦ (self.old.place < self.new.place) × (self.new.place ≤ length self.old.code.now) × (p.0.pairs ≤ 4) | Err e ↦ Unit {0} ] }
     {
-        if self.place > self.code.len() {
-            return Err(Unreadable::Cut);
-        }
-        match take_instruction(&self.code[self.place..]) {
-            Ok((i, rest)) => {
-                self.place += 2 * i.pairs as usize;
-                Ok((i, rest))
-            }
-            Err(e) => Err(e),
-        }
+        let code = self.code.get(self.place..).ok_or(Unreadable::Cut)?;
+        let (instruction, rest) = take_instruction(code)?;
+        self.place += 2 * instruction.pairs as usize;
+        Ok((instruction, rest))
     }
 }

@@ -1,6 +1,6 @@
 -- What is asked at a place, and the instruction that stands there.
-use Rattle.std.proofs.Common.{◌≡◌, ℕ, ◌+◌, ◌-◌, ◌*◌, ◌%◌, ◌<◌, Bool, true, false, cond, ◌&&◌, leb, ◌⊎◌, List, [], ◌∷◌, length, Some, None, Ok, Err, Option, refl, ap, ◌∙◌, subst, inl, inr, arith}
-use Rattle.std.proofs.lemmas.Bool.{eqb-true, ltb-true}
+use Rattle.std.proofs.Common.{◌≡◌, ℕ, ◌+◌, ◌-◌, ◌*◌, ◌%◌, ◌<◌, Bool, true, false, cond, leb, ◌⊎◌, List, [], ◌∷◌, length, Some, None, Ok, Err, Option, refl, ap, ◌∙◌, subst, inl, inr, arith}
+use Rattle.std.proofs.lemmas.Bool.{and_parts, eqb-true, ltb-true}
 use Rattle.parcels.specs.Reading.{Reading, read_at, starts_at}
 use Rattle.parcels.specs.Opcodes.{operation_of, flow_of, started, landing_of, successors_of}
 use Rattle.parcels.specs.declared.opcodes.Direction.{Direction}
@@ -41,20 +41,12 @@ led code p s a = by (asked code p)
     by (some i o t) = (i, o, t, subst (λ (d : Demand). Among s d.to) (stands_demand t) a)
     by (none e) = absurd (subst (λ (d : Demand). Among s d.to) e a)
 
-and_left : (x y : Bool) → (x && y) ≡ true → x ≡ true
-and_left true y e = refl
-and_left false y e = e
-
-and_right : (x y : Bool) → (x && y) ≡ true → y ≡ true
-and_right true y e = e
-and_right false y e = let z : ◌≡◌ {A = ℕ} 0 1 = cc in absurd (omega arith)
-
 -- a place where an instruction starts is even and below the end
 pub start_even : (code : List ℕ) (p : ℕ) → starts_at code p ≡ true → p % 2 ≡ 0
-start_even code p e = eqb-true (p % 2) 0 (and_left _ _ e)
+start_even code p e = eqb-true (p % 2) 0 (and_parts _ _ e).0
 
 pub start_below : (code : List ℕ) (p : ℕ) → starts_at code p ≡ true → p < length code
-start_below code p e = ltb-true p (length code) (and_left _ _ (and_right _ _ e))
+start_below code p e = ltb-true p (length code) (and_parts _ _ (and_parts _ _ e).1).0
 
 -- a landing place is one where an instruction starts
 started_among : (code : List ℕ) (q s : ℕ) (xs : List (Option ℕ)) (b : Bool) → starts_at code q ≡ b → Among s (cond b (Some q) None ∷ xs) → (starts_at code s ≡ true) ⊎ Among s xs

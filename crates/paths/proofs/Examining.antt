@@ -19,7 +19,7 @@ use Rattle.paths.proofs.Visiting.{byte, Has, In, Visited, Ends, visit_ends}
 
 -- a place is done: its rules hold at its height, and its successors have the height after
 pub record Done (code : List ℕ) (limit : ℕ) (hs : List ℕ) (p : ℕ) : Type 0 where
-  pub need : (demand_of code p).takes ≤ byte hs p
+  pub need : (demand_of code p).effect.takes ≤ byte hs p
   pub within : height_after (demand_of code p) (byte hs p) ≤ limit
   pub next : (s : ℕ) → Among s (demand_of code p).to → (s < length code) × (byte hs s ≡ height_after (demand_of code p) (byte hs p))
 
@@ -40,7 +40,7 @@ pub data ResultIs (code : List ℕ) (limit : ℕ) : Result (List ℕ) Fault → 
 module _ (code : List ℕ) (limit : ℕ) (small : limit < 255) where
   -- the newest place p is done
   turned : (hs ws : List ℕ) (p : ℕ) (w : Work) → Kept code limit hs (p ∷ ws)
-      → (demand_of code p).takes ≤ byte hs p → height_after (demand_of code p) (byte hs p) ≤ limit
+      → (demand_of code p).effect.takes ≤ byte hs p → height_after (demand_of code p) (byte hs p) ≤ limit
       → Visited (length code) (height_after (demand_of code p) (byte hs p)) (demand_of code p).to hs ws w → Kept code limit w.heights w.waiting
   turned hs ws p w k need within v =
       let a = height_after (demand_of code p) (byte hs p) in
@@ -97,9 +97,9 @@ module _ (code : List ℕ) (limit : ℕ) (small : limit < 255) where
           }
 
   -- the height is below the need
-  is_low : (hs : List ℕ) (p : ℕ) → Path code p (byte hs p) → byte hs p < (demand_of code p).takes → Asked code p → Breaks code limit (fault HeightLow p)
-  is_low hs p here h (some i o t) = low here t (subst (λ (d : Demand). byte hs p < d.takes) (stands_demand t) h)
-  is_low hs p here h (none e) = absurd (omega (arith, ap (λ (d : Demand). d.takes) e, h))
+  is_low : (hs : List ℕ) (p : ℕ) → Path code p (byte hs p) → byte hs p < (demand_of code p).effect.takes → Asked code p → Breaks code limit (fault HeightLow p)
+  is_low hs p here h (some i o t) = low here t (subst (λ (d : Demand). byte hs p < d.effect.takes) (stands_demand t) h)
+  is_low hs p here h (none e) = absurd (omega (arith, ap (λ (d : Demand). d.effect.takes) e, h))
 
   -- the height after is above the limit
   is_over : (hs : List ℕ) (p : ℕ) → Path code p (byte hs p) → byte hs p ≤ limit → limit < height_after (demand_of code p) (byte hs p) → Asked code p → Breaks code limit (fault HeightOver p)
@@ -112,12 +112,12 @@ module _ (code : List ℕ) (limit : ℕ) (small : limit < 255) where
       → ResultIs code limit (and_then (turn code limit p (record { heights = hs; waiting = ws })) rest)
   one_turn hs ws p k rest more =
       let at = k.waits p (inl refl) in
-      by (ltb (byte hs p) (demand_of code p).takes) (ltb limit (height_after (demand_of code p) (byte hs p))) refl refl (k.sound p at.0 at.1 at.2) (k.low p at.0 at.1 at.2) at.0
+      by (ltb (byte hs p) (demand_of code p).effect.takes) (ltb limit (height_after (demand_of code p) (byte hs p))) refl refl (k.sound p at.0 at.1 at.2) (k.low p at.0 at.1 at.2) at.0
     where
       d : Demand
       d = demand_of code p
 
-      visited : {r : Result Work Fault} → Path code p (byte hs p) → (demand_of code p).takes ≤ byte hs p → height_after (demand_of code p) (byte hs p) ≤ limit → p % 2 ≡ 0
+      visited : {r : Result Work Fault} → Path code p (byte hs p) → (demand_of code p).effect.takes ≤ byte hs p → height_after (demand_of code p) (byte hs p) ≤ limit → p % 2 ≡ 0
           → Ends (length code) p (height_after (demand_of code p) (byte hs p)) (demand_of code p).to hs ws r → ResultIs code limit (and_then r rest)
       visited here need within e (visiting.goes {w} v) = more w (turned hs ws p w k need within v) v.count
       visited here need within e (visiting.leaves s m h) =
@@ -133,7 +133,7 @@ module _ (code : List ℕ) (limit : ℕ) (small : limit < 255) where
           let arrives = subst (λ (d : Demand). Path code s (height_after d (byte hs p))) (sym (stands_demand t.2)) (goes_on here t.2 t.3) in
           broken (fault HeightsDiffer s) (differ there arrives ne)
 
-      by : (b c : Bool) → ltb (byte hs p) (demand_of code p).takes ≡ b → ltb limit (height_after (demand_of code p) (byte hs p)) ≡ c
+      by : (b c : Bool) → ltb (byte hs p) (demand_of code p).effect.takes ≡ b → ltb limit (height_after (demand_of code p) (byte hs p)) ≡ c
           → Path code p (byte hs p) → byte hs p ≤ limit → p % 2 ≡ 0
           → ResultIs code limit (and_then
           (cond b (Err (fault HeightLow p))

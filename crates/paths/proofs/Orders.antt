@@ -1,6 +1,6 @@
 -- The rules of each stage, and the tests that find them broken.
-use Rattle.std.proofs.Common.{◌≡◌, ℕ, zero, suc, ◌%◌, ◌<◌, ◌≤◌, Bool, true, false, cond, not, ◌&&◌, ◌||◌, List, [], ◌∷◌, is_some, Some, None, Ok, Err, Option, sym, refl, ap, ◌∙◌, subst, arith}
-use Rattle.std.proofs.lemmas.Bool.{eqb-true, eqb-false, eq-eqb, ne_eqb, le-ltb, lt-leb, ltb-false, leb-false}
+use Rattle.std.proofs.Common.{◌≡◌, ℕ, zero, suc, ◌%◌, ◌<◌, ◌≤◌, Bool, true, false, cond, not, ◌&&◌, List, [], ◌∷◌, is_some, Some, None, Ok, Err, Option, sym, refl, ap, ◌∙◌, subst, arith}
+use Rattle.std.proofs.lemmas.Bool.{not-true, not-false, not_from_true, or_parts, or_from, eqb-true, eqb-false, eq-eqb, ne_eqb, le-ltb, lt-leb, ltb-false, leb-false}
 use Rattle.values.specs.Order.{Test, first}
 use Rattle.values.specs.declared.faults.Fault.{Fault}
 use Rattle.parcels.specs.Layouts.{header_tests, flag_tests}
@@ -27,11 +27,11 @@ first_none [] e = tt
 first_none (t ∷ ts) e = by (first_none ts) t.applies refl e
   where
     by : (first ts ≡ None → Silent ts) → (b : Bool) → t.applies ≡ b → cond b (Some t.finds) (first ts) ≡ None → (t.applies ≡ false) × Silent ts
-    by more true f q = let z : ◌≡◌ {A = ℕ} 0 1 = cc in absurd (omega arith)
+    by more true f q = absurd cc
     by more false f q = (f, more q)
 
 pub first_some : (ts : List Test) (f : Fault) → first ts ≡ Some f → First ts f
-first_some [] f e = let z : ◌≡◌ {A = ℕ} 0 1 = cc in absurd (omega arith)
+first_some [] f e = absurd cc
 first_some (t ∷ ts) f e = by (first_some ts f) t.applies refl e
   where
     by : (first ts ≡ Some f → First ts f) → (b : Bool) → t.applies ≡ b → cond b (Some t.finds) (first ts) ≡ Some f → First (t ∷ ts) f
@@ -44,26 +44,11 @@ not_first (later e g) s = not_first g s.1
 
 and_false : (x y : Bool) → (x && y) ≡ false → x ≡ true → y ≡ false
 and_false true y e f = e
-and_false false y e f = let z : ◌≡◌ {A = ℕ} 0 1 = cc in absurd (omega arith)
+and_false false y e f = absurd cc
 
 false_and : (x y : Bool) → (x ≡ true → y ≡ false) → (x && y) ≡ false
 false_and true y f = f refl
 false_and false y f = refl
-
-or_false : (x y : Bool) → (x || y) ≡ false → (x ≡ false) × (y ≡ false)
-or_false true y e = let z : ◌≡◌ {A = ℕ} 0 1 = cc in absurd (omega arith)
-or_false false y e = (refl, e)
-
-false_or : (x y : Bool) → x ≡ false → y ≡ false → (x || y) ≡ false
-false_or true y e f = e
-false_or false y e f = f
-
-not_false : (x : Bool) → not x ≡ false → x ≡ true
-not_false true e = refl
-not_false false e = let z : ◌≡◌ {A = ℕ} 0 1 = cc in absurd (omega arith)
-
-true_not : (x : Bool) → x ≡ true → not x ≡ false
-true_not x e = ap not e
 
 -- the header
 pub header_kept : (b : List ℕ) → Silent (header_tests b) → KeepsHeader b
@@ -72,11 +57,11 @@ header_kept b s = record {
   known = ltb-false _ _ s.1.0;
   few = ltb-false _ _ s.1.1.0;
   short = ltb-false _ _ s.1.1.1.0;
-  ends = eqb-true _ _ (not_false _ s.1.1.1.1.0);
+  ends = eqb-true _ _ (not-false _ s.1.1.1.1.0);
 }
 
 pub header_silent : (b : List ℕ) → KeepsHeader b → Silent (header_tests b)
-header_silent b k = (le-ltb _ _ k.ten, (le-ltb _ _ k.known, (le-ltb _ _ k.few, (le-ltb _ _ k.short, (true_not _ (eq-eqb _ _ k.ends), tt)))))
+header_silent b k = (le-ltb _ _ k.ten, (le-ltb _ _ k.known, (le-ltb _ _ k.few, (le-ltb _ _ k.short, (not_from_true _ (eq-eqb _ _ k.ends), tt)))))
 
 -- the flags
 pub flags_kept : (h : Header) → Silent (flag_tests h) → KeepsFlags h
@@ -94,7 +79,7 @@ literal_kept ls bindings k s = record {
   where
     there : (o : Option Literal) → literal ls k ≡ o → not (is_some o) ≡ false → (l : Literal) × (literal ls k ≡ Some l)
     there (Some l) e f = (l, e)
-    there None e f = let z : ◌≡◌ {A = ℕ} 0 1 = cc in absurd (omega arith)
+    there None e f = absurd cc
 
 pub literal_silent : (ls : List ℕ) (bindings k : ℕ) → KeepsLiteral ls bindings k → Silent (literal_tests ls bindings k)
 literal_silent ls bindings k s =
@@ -109,10 +94,10 @@ literal_silent ls bindings k s =
 
 -- the lists
 pub lists_kept : (n h w : ℕ) → Silent (list_tests n h w) → (n ≤ h) × (n ≤ w)
-lists_kept n h w s = let o = or_false _ _ s.0 in (ltb-false _ _ o.0, ltb-false _ _ o.1)
+lists_kept n h w s = let o = or_parts _ _ s.0 in (ltb-false _ _ o.0, ltb-false _ _ o.1)
 
 pub lists_silent : (n h w : ℕ) → n ≤ h → n ≤ w → Silent (list_tests n h w)
-lists_silent n h w e f = (false_or _ _ (le-ltb _ _ e) (le-ltb _ _ f), tt)
+lists_silent n h w e f = (or_from _ _ (le-ltb _ _ e) (le-ltb _ _ f), tt)
 
 -- the length of the code
 pub length_kept : (l : ℕ) → Silent (length_tests l) → (0 < l) × (l % 2 ≡ 0)
@@ -143,9 +128,9 @@ module _ (x : Setting) (p : ℕ) (b : Bool) (i : Instruction) (rest : List ℕ) 
     operand = s.0;
     clear = and_false _ _ s.1.0;
     unmarked = λ q. and_false _ _ s.1.1.0 (ap not q);
-    returns = λ q. not_false _ (and_false _ _ s.1.1.1.0 q);
+    returns = λ q. not-false _ (and_false _ _ s.1.1.1.0 q);
     lands = s.1.1.1.1.0;
-    closure = λ q. tells (not_false _ (and_false _ _ s.1.1.1.1.1.0 q));
+    closure = λ q. tells (not-false _ (and_false _ _ s.1.1.1.1.1.0 q));
   }
 
   pub rules_kept : Silent (site_tests x (site p b i) (operation_of i.opcode)) → KeepsRules x p
@@ -153,7 +138,7 @@ module _ (x : Setting) (p : ℕ) (b : Bool) (i : Instruction) (rest : List ℕ) 
     where
       by : (o : Option Operation) → operation_of i.opcode ≡ o → Silent (site_tests x (site p b i) o) → KeepsRules x p
       by (Some o) e s = kept o e s
-      by None e s = let q = s.0 in let z : ◌≡◌ {A = ℕ} 0 1 = cc in absurd (omega arith)
+      by None e s = let q = s.0 in absurd cc
 
 abbrev instruction_of : Reading → Instruction → Instruction
 instruction_of (Ok r) d = r.0
@@ -177,16 +162,12 @@ rules_silent x p b i rest read tells k =
         (
           false_and _ _ (λ q. k.unmarked (not-true x.trusted q)),
           (
-            false_and _ _ (λ q. true_not _ (k.returns q)),
+            false_and _ _ (λ q. not_from_true _ (k.returns q)),
             (
               k.lands,
-              (false_and _ _ (λ q. true_not _ (tells (k.closure q))), tt),
+              (false_and _ _ (λ q. not_from_true _ (tells (k.closure q))), tt),
             ),
           ),
         ),
       ),
     )
-      where
-        not-true : (t : Bool) → not t ≡ true → t ≡ false
-        not-true true q = let z : ◌≡◌ {A = ℕ} 0 1 = cc in absurd (omega arith)
-        not-true false q = refl

@@ -44,12 +44,12 @@ pairs_of (Ok r) = r.0.pairs
 pairs_of (Err e) = 0
 
 shape : (n a k : ℕ) (xs : List ℕ) (i : Instruction) (rest : List ℕ) → reads n a k xs ≡ Ok (i, rest) → Shape k xs i.pairs
-shape n a k [] i rest e = let z : ◌≡◌ {A = ℕ} 0 1 = cc in absurd (omega arith)
-shape n a k (x ∷ []) i rest e = let z : ◌≡◌ {A = ℕ} 0 1 = cc in absurd (omega arith)
+shape n a k [] i rest e = absurd cc
+shape n a k (x ∷ []) i rest e = absurd cc
 shape zero a k (op ∷ b ∷ xs) i rest e = by (eqb op 55) refl e
   where
     by : (c : Bool) → eqb op 55 ≡ c → cond {A = Reading} c (Err FourthExtension) (Ok (record { opcode = op; argument = a * 256 + b; pairs = k + 1 }, xs)) ≡ Ok (i, rest) → Shape k (op ∷ b ∷ xs) i.pairs
-    by true f q = let z : ◌≡◌ {A = ℕ} 0 1 = cc in absurd (omega arith)
+    by true f q = absurd cc
     by false f q = let same : k + 1 ≡ i.pairs = ap pairs_of q in subst (λ (m : ℕ). Shape k (op ∷ b ∷ xs) m) same (final k op b xs (eqb-false op 55 f))
 shape (suc n) a k (op ∷ b ∷ xs) i rest e = by (shape n (a * 256 + b) (k + 1) xs i rest) (eqb op 55) refl e
   where

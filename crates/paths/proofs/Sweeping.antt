@@ -88,5 +88,5 @@ module _ (x : Setting) where
   pub sweep_finds : 0 < length x.parts.code → Found x 0 (swept x (length x.parts.code) false 0)
   sweep_finds h =
       found (length x.parts.code) false 0 (omega arith) (λ l. first_starts x.parts.code l)
-      (λ e. let z : ◌≡◌ {A = ℕ} 0 1 = cc in absurd (omega arith))
+      (λ e. absurd cc)
       (λ a. absurd (omega (arith, a.next, (spans x.parts.code a.place a.instruction a.rest a.read).some)))

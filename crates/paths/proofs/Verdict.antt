@@ -1,10 +1,12 @@
 -- Every verdict has its meaning.
-use Rattle.std.proofs.Common.{◌≡◌, ℕ, zero, suc, ◌+◌, ◌%◌, ◌<◌, ◌≤◌, Bool, true, false, cond, eqb, List, [], length, drop, replicate, Some, None, Ok, Err, Option, Result, sym, refl, subst, inl, inr, arith}
+use Rattle.std.proofs.Common.{◌≡◌, ℕ, zero, suc, ◌+◌, ◌%◌, ◌<◌, ◌≤◌, Bool, false, List, [], length, drop, replicate, Some, None, Ok, Err, Option, Result, sym, refl, subst, inl, inr, arith}
 use Rattle.std.proofs.lemmas.Bool.{cases_eq, cases_lt}
 use Rattle.values.specs.Order.{first, or_else, first_from, unless, and_then}
 use Rattle.values.specs.declared.faults.Fault.{Fault}
 use Rattle.hosts.specs.Meaning.{Marks}
-use Rattle.parcels.specs.Layouts.{header_tests, flag_tests, flagged, laid_out, method_layout, block_layout, limit_of}
+use Rattle.parcels.specs.declared.layout.Kind.{Kind}
+use Rattle.parcels.specs.declared.layout.Kind.TheVariants.{Method, Block}
+use Rattle.parcels.specs.Layouts.{header_tests, flag_tests, flagged, laid_out, laid_as, limit_of}
 use Rattle.parcels.specs.Literals.{literal_tests, wrong}
 use Rattle.parcels.specs.Parts.{Parts, split}
 use Rattle.parcels.specs.declared.layout.Header.{Header}
@@ -72,11 +74,11 @@ module _ (m : Marks) (b : List ℕ) (h w : ℕ) where
 
 -- slots are at most 252
 few_slots : (h : Header) → (laid_out h).slots ≤ 252
-few_slots h = by (eqb h.kind 0)
+few_slots h = by h.kind
   where
-    by : (c : Bool) → (cond c (method_layout h) (block_layout h)).slots ≤ 252
-    by true = omega arith
-    by false = omega arith
+    by : (k : Kind) → (laid_as k h).slots ≤ 252
+    by Method = omega arith
+    by Block = omega arith
 
 -- what the stages encoding and heights answer
 data Judgement (m : Marks) (t : Bool) (b : List ℕ) (h w : ℕ) : Result (List ℕ) Fault → Type 0 where
@@ -141,12 +143,12 @@ module _ (m : Marks) (t : Bool) (b hs ws : List ℕ) where
     keeps = λ x q. (k, long);
     accepts = λ k l. (top, e);
     heights = λ x q. let same : top ≡ x = cc in subst (λ (y : ℕ). HeightsAre (parcel b).code c.heights y) same heights;
-    refused = λ f q. let z : ◌≡◌ {A = ℕ} 0 1 = cc in absurd (omega arith);
+    refused = λ f q. absurd cc;
   }
   means c (no f e x) = record {
-    keeps = λ y q. let z : ◌≡◌ {A = ℕ} 0 1 = cc in absurd (omega arith);
+    keeps = λ y q. absurd cc;
     accepts = λ k l. absurd (no_fault x k l);
-    heights = λ y q. let z : ◌≡◌ {A = ℕ} 0 1 = cc in absurd (omega arith);
+    heights = λ y q. absurd cc;
     refused = λ g q. let same : f ≡ g = cc in subst (λ (y : Fault). FirstFault m t b (length hs) (length ws) y) same x;
   }
 

@@ -44,7 +44,7 @@ module _ (code : List ℕ) (limit : ℕ) (hs : List ℕ) (small : limit < 255) (
   keeps_heights = record {
     need = λ {p} {h} {i} {o} path t.
         let w = walked path in
-        subst (λ (x : ℕ). (effect_of o i).takes ≤ x) w.at (subst (λ (d : Demand). d.takes ≤ byte hs p) (stands_demand t) w.done.need);
+        subst (λ (x : ℕ). (effect_of o i).takes ≤ x) w.at (subst (λ (d : Demand). d.effect.takes ≤ byte hs p) (stands_demand t) w.done.need);
     within = λ {p} {h} {i} {o} path t.
         let w = walked path in
         subst (λ (x : ℕ). after (effect_of o i) x ≤ limit) w.at (subst (λ (d : Demand). height_after d (byte hs p) ≤ limit) (stands_demand t) w.done.within);

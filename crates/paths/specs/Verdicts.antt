@@ -2,7 +2,7 @@
 use Rattle.std.specs.Prelude.{◌≡◌, ℕ, ◌*◌, ◌%◌, ◌<◌, ◌≤◌, Bool, true, List, length, Ok, Err, slice_index}
 use Rattle.values.specs.declared.faults.Fault.{Fault}
 use Rattle.hosts.specs.Meaning.{Marks, Meaning, marks_of}
-use Rattle.parcels.specs.Layouts.{kind, literal_count, flags, code_length, header_tests, flag_tests, laid_out, limit_of}
+use Rattle.parcels.specs.Layouts.{kind_in, literal_count, flags, code_length, header_tests, flag_tests, laid_out, limit_of}
 use Rattle.parcels.specs.Literals.{literal_tests}
 use Rattle.parcels.specs.Parts.{Parts, split}
 use Rattle.parcels.specs.Reading.{starts_at}
@@ -15,7 +15,7 @@ use Rattle.paths.specs.Rules.{First, KeepsHeader, KeepsFlags, KeepsLiteral, Keep
 
 -- the header that bytes have, whatever they are
 abbrev pub header : List ℕ → Header
-header b = record { kind = kind b; literals = literal_count b; flags = flags b; code = code_length b }
+header b = record { kind = kind_in b; literals = literal_count b; flags = flags b; code = code_length b }
 
 -- the layout, the literals and the code that bytes have, whatever they are
 abbrev pub parcel : List ℕ → Parts

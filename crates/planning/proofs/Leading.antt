@@ -1,5 +1,5 @@
 -- Opening and stepping, call by call.
-use Rattle.std.proofs.Common.{◌≡◌, ℕ, ◌≤◌, Bool, true, false, not, eqb, ltb, List, [], ◌∷◌, length, IfOk, Some, None, Ok, Err, Option, Result, sym, refl, ap, ◌∙◌, subst, arith, ltb-false}
+use Rattle.std.proofs.Common.{◌≡◌, ℕ, ◌≤◌, Bool, true, false, not, eqb, ltb, List, [], ◌∷◌, length, Some, None, Ok, Err, Option, Result, sym, refl, ap, ◌∙◌, ltb-false}
 use mathlib.Core.Path.{subst⁻¹}
 use Rattle.values.specs.Order.{test, first}
 use Rattle.values.specs.declared.faults.Fault.{Fault}
@@ -15,14 +15,11 @@ use Rattle.scripts.specs.Laws.{Like, marked}
 use Rattle.scripts.specs.Running.{Running, Answer, moved, Stepping, Steps, step_tests, cells_of, next_script}
 use Rattle.scripts.proofs.Following.{like}
 use Rattle.scripts.proofs.Hosts.{like_same, like_trans}
-use Rattle.histories.specs.Opening.{Opened, opened, admitted, judged, empty}
+use Rattle.histories.specs.Opening.{opened, admitted, judged, empty}
 use Rattle.histories.specs.Histories.{History, Runs, new, taken, opens, steps, collects}
 use Rattle.histories.proofs.Safety.{every_history_is_safe}
-use Rattle.planning.specs.Keeping.{KeepsTrusted, Led, LeadsOn, Going, Followed, Played, PlayedBy}
-use Rattle.planning.specs.declared.texts.Outcome.{Outcome}
-
-pub no_err : {X : Type 0} {f : Fault} {x : X} → ◌≡◌ {A = Result X Fault} (Err f) (Ok x) → ⊥
-no_err q = let z : ◌≡◌ {A = ℕ} 0 1 = cc in omega arith
+use Rattle.planning.specs.Keeping.{StaysWithin, Led, LeadsOn, Going}
+use Rattle.planning.specs.declared.options.Plan.{Plan}
 
 -- the law of a host on its messages
 abbrev Lawful : {S : Type 0} → (S → Meaning) → (S → Sent → Value → S → Type 0) → Type 0
@@ -58,15 +55,14 @@ module _ {S : Type 0} (means : S → Meaning) (may : S → Sent → Value → S 
   alike law (steps {s} past k run run' at s' f f' a st) = like_trans (alike law past) (like_by law (first (step_tests run (means s) f)) run run' s s' f f' a st)
   alike law (collects past k run at) = alike law past
 
-  -- what was led to without trusted parcels keeps the trusted cells
-  pub kept : Lawful means may → (t : Bool) (s₀ s : S) (run : Running) → Led means may t s₀ s run → t ≡ false → KeepsTrusted (means s₀) (means s)
-  kept law t s₀ s run l e =
+  -- what was led to under a plan stays within it
+  pub within : Lawful means may → (p : Plan) (s₀ s : S) (run : Running) → Led means may p.trusted s₀ s run → StaysWithin p (means s₀) (means s)
+  within law p s₀ s run l =
       let safe = every_history_is_safe means may law s₀ s (Some run ∷ []) l.past in
-      record { variables = safe.variables (l.untrusted e); bindings = safe.bindings (l.untrusted e) }
-
-  -- what was led to has the marks that the host began with
-  pub marks_kept : Lawful means may → (t : Bool) (s₀ s : S) (run : Running) → Led means may t s₀ s run → marks_of (means s) ≡ marks_of (means s₀)
-  marks_kept law t s₀ s run l = (alike law l.past).marks
+      record {
+        kept = λ e. record { variables = safe.variables (l.untrusted e); bindings = safe.bindings (l.untrusted e) };
+        marks = (alike law l.past).marks;
+      }
 
   -- a step leaves the parcel
   same_parcel : (run : Running) (o : Way) → (moved run o).parts ≡ run.parts
@@ -99,12 +95,12 @@ module _ {S : Type 0} (means : S → Meaning) (may : S → Sent → Value → S 
 module _ (p : Parts) (m : Meaning) (args f : List Value) (run : Running) (top : ℕ) where
   long_by : (a b : Bool) (n : ℕ) → (b ≡ false → cells_of p ≤ length f) → (admitted (first (test ArgumentsDiffer 0 a ∷ test FrameShort 0 b ∷ [])) n p m args f run).answer ≡ Ok top
       → cells_of (admitted (first (test ArgumentsDiffer 0 a ∷ test FrameShort 0 b ∷ [])) n p m args f run).run.parts ≤ length f
-  long_by true b n k e = absurd (no_err e)
-  long_by false true n k e = absurd (no_err e)
+  long_by true b n k e = absurd cc
+  long_by false true n k e = absurd cc
   long_by false false n k e = k refl
 
   pub long_enough : (v : Result ℕ Fault) → (judged v p m args f run).answer ≡ Ok top → cells_of (judged v p m args f run).run.parts ≤ length f
-  long_enough (Err x) e = absurd (no_err e)
+  long_enough (Err x) e = absurd cc
   long_enough (Ok n) e = long_by (not (eqb (length args) p.layout.arguments)) (ltb (length f) (cells_of p)) n (ltb-false (length f) (cells_of p)) e
 
 module _ {S : Type 0} (means : S → Meaning) (may : S → Sent → Value → S → Type 0) where
@@ -122,26 +118,21 @@ module _ {S : Type 0} (means : S → Meaning) (may : S → Sent → Value → S 
         (long_enough (parcel b) (means s) args f run top (checked (marks_of (means s)) t b hs ws).verdict (sym answer ∙ ok)));
   }
 
-  -- what an opening began and a follower went on with
-  pub played : (o o' : Opened) (budget : ℕ) (s s' : S) (run run' : Running) (f f' : List Value) (out : Outcome) (a : Result ℕ Fault) (top : ℕ)
-      → o ≡ o' → a ≡ o.answer → a ≡ Ok top → run ≡ o.run → f ≡ o.frame → Followed means may budget s run f out s' run' f' → Played means may o' budget s out s' f'
-  played o o' budget s s' run run' f f' out a top e answer ok e-run e-frame x =
-      subst (λ (z : Opened). Played means may z budget s out s' f') e
-      (subst (λ (y : Result ℕ Fault). PlayedBy means may y o budget s out s' f') (sym ok ∙ answer)
-      (run', subst (λ (r : Running). Followed means may budget s r o.frame out s' run' f') e-run (subst (λ (g : List Value). Followed means may budget s run g out s' run' f') e-frame x)))
-
--- an answer of which more is known
-pub made_so : {X E : Type 0} (P Q : X → Type 0) (r : Result X E) → ((x : X) → P x → Q x) → IfOk r P → IfOk r Q
-made_so P Q (Ok x) k p = k x p
-made_so P Q (Err e) k p = p
+  -- what an opening began and was led on from there stays within the plan
+  pub within_led : Lawful means may → (p : Plan) (s s' : S) (b : List ℕ) (args f : List Value) (hs ws : List ℕ) (run run' run'' : Running)
+      → run ≡ empty → run' ≡ (opened (means s) p.trusted b args f hs ws run).run → LeadsOn means may s run' s' run'' → StaysWithin p (means s) (means s')
+  within_led law p s s' b args f hs ws run run' run'' e e' on = within means may law p s s' run'' (on p.trusted s (begun means may p.trusted s b args f hs ws run run' e e'))
 
 -- nothing happened
-pub keeps_same : (m : Meaning) → KeepsTrusted m m
-keeps_same m = record { variables = λ i e. refl; bindings = λ i e. refl }
+pub keeps_same : (p : Plan) (m : Meaning) → StaysWithin p m m
+keeps_same p m = record { kept = λ e. record { variables = λ i q. refl; bindings = λ i q. refl }; marks = refl }
 
 -- one after the other
-pub keeps_on : {m n o : Meaning} → marks_of n ≡ marks_of m → KeepsTrusted m n → KeepsTrusted n o → KeepsTrusted m o
-keeps_on e x y = record {
-  variables = λ i q. y.variables i (ap (λ (k : Marks). marked k.variables i) e ∙ q) ∙ x.variables i q;
-  bindings = λ i q. y.bindings i (ap (λ (k : Marks). marked k.bindings i) e ∙ q) ∙ x.bindings i q;
+pub keeps_on : {p : Plan} {m n o : Meaning} → StaysWithin p m n → StaysWithin p n o → StaysWithin p m o
+keeps_on x y = record {
+  kept = λ e. record {
+    variables = λ i q. (y.kept e).variables i (ap (λ (k : Marks). marked k.variables i) x.marks ∙ q) ∙ (x.kept e).variables i q;
+    bindings = λ i q. (y.kept e).bindings i (ap (λ (k : Marks). marked k.bindings i) x.marks ∙ q) ∙ (x.kept e).bindings i q;
+  };
+  marks = y.marks ∙ x.marks;
 }

@@ -1,9 +1,9 @@
 -- What the words of a command line ask for.
-use Rattle.std.specs.Prelude.{◌≡◌, ℕ, ◌<◌, Bool, true, false, List, [], ◌∷◌, ◌++◌, map, ℤ, vec_items, vec_len, string_bytes, codes, String}
+use Rattle.std.specs.Prelude.{◌≡◌, ℕ, ◌<◌, Bool, true, false, List, [], ◌∷◌, ◌++◌, map, ℤ, Some, None, Option, vec_items, vec_len, string_bytes, codes, String}
 use Rattle.values.specs.declared.kinds.Value.{Value}
 use Rattle.planning.specs.Words.{Is, Count, Number, ArgumentOf}
 use Rattle.planning.specs.declared.options.Awaited.{Awaited}
-use Rattle.planning.specs.declared.options.Awaited.TheVariants.{Nothing, Steps, Argument}
+use Rattle.planning.specs.declared.options.Awaited.TheVariants.{Steps, Argument}
 use Rattle.planning.specs.declared.options.Draft.{Draft}
 use Rattle.planning.specs.declared.options.Options.{Options}
 use Rattle.planning.specs.declared.options.Plan.{Plan}
@@ -30,10 +30,10 @@ abbrev pub AsksFor : List (List ℕ) → Plan → List (List ℕ) → Type 0
 AsksFor ws p ps = Asks ws p.trace p.trusted p.steps (vec_items p.arguments) ps
 
 -- the same, where an option that awaits its number may stand last
-abbrev pub AsksSoFar : Awaited → List (List ℕ) → Plan → List (List ℕ) → Type 0
-AsksSoFar Nothing ws p ps = AsksFor ws p ps
-AsksSoFar Steps ws p ps = (before : List (List ℕ)) × (ws ≡ before ++ (codes "--steps" ∷ [])) × AsksFor before p ps
-AsksSoFar Argument ws p ps = (before : List (List ℕ)) × (ws ≡ before ++ (codes "--argument" ∷ [])) × AsksFor before p ps
+abbrev pub AsksSoFar : Option Awaited → List (List ℕ) → Plan → List (List ℕ) → Type 0
+AsksSoFar None ws p ps = AsksFor ws p ps
+AsksSoFar (Some Steps) ws p ps = (before : List (List ℕ)) × (ws ≡ before ++ (codes "--steps" ∷ [])) × AsksFor before p ps
+AsksSoFar (Some Argument) ws p ps = (before : List (List ℕ)) × (ws ≡ before ++ (codes "--argument" ∷ [])) × AsksFor before p ps
 
 -- a draft is what the words so far ask for
 abbrev pub Drafted : Draft → List (List ℕ) → Type 0

@@ -1,5 +1,5 @@
 -- What becomes of a host while parcels run on it.
-use Rattle.std.specs.Prelude.{◌≡◌, ℕ, ◌+◌, ◌≤◌, Bool, true, false, List, [], ◌∷◌, length, Some, Ok, Err, Result}
+use Rattle.std.specs.Prelude.{◌≡◌, ℕ, ◌+◌, ◌≤◌, Bool, true, false, List, [], ◌∷◌, length, Some, IsOkAnd, Ok, Err, Result}
 use Rattle.values.specs.declared.faults.Fault.{Fault}
 use Rattle.values.specs.declared.kinds.Value.{Value}
 use Rattle.hosts.specs.Meaning.{Meaning, Sent, marks_of}
@@ -9,13 +9,19 @@ use Rattle.scripts.specs.Scripts.{cell_value}
 use Rattle.scripts.specs.declared.states.State.TheVariants.{Live}
 use Rattle.histories.specs.Histories.{History, Untrusted}
 use Rattle.histories.specs.Opening.{Opened}
+use Rattle.planning.specs.declared.options.Plan.{Plan}
 use Rattle.planning.specs.declared.texts.Outcome.{Outcome}
-use Rattle.planning.specs.declared.texts.Outcome.TheVariants.{Refused, Ran}
+use Rattle.planning.specs.declared.texts.Ran.{Ran}
 
 -- every trusted cell has the value that it had
 pub record KeepsTrusted (m m' : Meaning) : Type 0 where
   pub variables : (i : ℕ) → marked (marks_of m).variables i ≡ true → cell_value m'.variables i ≡ cell_value m.variables i
   pub bindings : (i : ℕ) → marked (marks_of m).bindings i ≡ true → cell_value m'.bindings i ≡ cell_value m.bindings i
+
+-- what parcels run under a plan leave of a host: every mark, and where the plan is not trusted, every trusted cell's value
+pub record StaysWithin (p : Plan) (m m' : Meaning) : Type 0 where
+  pub kept : p.trusted ≡ false → KeepsTrusted m m'
+  pub marks : marks_of m' ≡ marks_of m
 
 module _ {S : Type 0} (means : S → Meaning) (may : S → Sent → Value → S → Type 0) where
   -- calls on one run alone led from the host s₀ to the host s and the run; where t is false, no trusted parcel was opened
@@ -40,16 +46,18 @@ module _ {S : Type 0} (means : S → Meaning) (may : S → Sent → Value → S 
     more : {k : ℕ} {s s' : S} {run run' : Running} {f f' : List Value}
         → Stepped s₀ run₀ f₀ k s run f → run.state ≡ Live → Steps means may run s f (Ok tt) run' s' f' → Stepped s₀ run₀ f₀ (k + 1) s' run' f'
 
-  -- a run was stepped until it was live no more, or else as often as the budget says; the outcome has its state, its place and how many steps were made
-  abbrev pub Followed : ℕ → S → Running → List Value → Outcome → S → Running → List Value → Type 0
-  Followed budget s run f (Refused x) s' run' f' = ⊥
-  Followed budget s run f (Ran st p k) s' run' f' =
-      (st ≡ run'.state) × (p ≡ run'.place) × (k ≤ budget) × (st ≡ Live → k ≡ budget) × Stepped s run f k s' run' f'
+  -- a run was stepped until it was live no more, or else as often as the budget says: its state and its place then, and how many steps were made
+  pub record Followed (budget : ℕ) (s : S) (run : Running) (f : List Value) (ran : Ran) (s' : S) (run' : Running) (f' : List Value) : Type 0 where
+    pub state : ran.state ≡ run'.state
+    pub place : ran.place ≡ run'.place
+    pub within : ran.steps ≤ budget
+    pub spent : ran.state ≡ Live → ran.steps ≡ budget
+    pub stepped : Stepped s run f ran.steps s' run' f'
 
   -- what comes of an accepted parcel by the answer of its opening: the refusal, or the run that began is followed
   abbrev pub PlayedBy : Result ℕ Fault → Opened → ℕ → S → Outcome → S → List Value → Type 0
-  PlayedBy (Err x) o budget s out s' f' = (out ≡ Refused x) × (means s' ≡ means s)
-  PlayedBy (Ok top) o budget s out s' f' = (run' : Running) × Followed budget s o.run o.frame out s' run' f'
+  PlayedBy (Err x) o budget s out s' f' = (out.0 ≡ Err x) × (means s' ≡ means s)
+  PlayedBy (Ok top) o budget s out s' f' = IsOkAnd out.0 (λ ran. (run' : Running) × Followed budget s o.run o.frame ran s' run' f')
 
   -- what comes of an accepted parcel by its opening
   abbrev pub Played : Opened → ℕ → S → Outcome → S → List Value → Type 0

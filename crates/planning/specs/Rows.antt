@@ -1,7 +1,7 @@
 -- The lines of a host's cells.
 use Rattle.std.specs.Prelude.{ℕ}
 use Rattle.hosts.specs.Meaning.{Cell}
-use Rattle.planning.specs.declared.texts.Row.{Row}
+use Rattle.hosts.specs.declared.rows.Row.{Row}
 use Rattle.planning.specs.declared.texts.CellText.{CellText}
 
 -- the line of cell i of a row

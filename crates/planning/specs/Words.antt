@@ -1,5 +1,6 @@
 -- The words of the command line.
-use Rattle.std.specs.Prelude.{◌≡◌, ℕ, ◌%◌, ◌^◌, Bool, true, false, ◌&&◌, List, length, ℤ, Ok, codes, ◌==◌, nat_le, slice_index}
+use Rattle.std.specs.Prelude.{◌≡◌, ℕ, ◌%◌, ◌^◌, Bool, true, false, List, ℤ, Ok, codes, nat_eq}
+use Rattle.std.specs.List.{starts_with}
 use Rattle.std.proofs.Common.{of_z}
 use Rattle.std.specs.Int.{w64}
 use Rattle.std.specs.Str.Parse.{ParsesUnsigned, ParsesSigned}
@@ -12,7 +13,7 @@ use Rattle.planning.specs.declared.options.Word.TheVariants.{Trace, Trusted, Ste
 
 -- a text begins with two dashes
 abbrev pub dashed : List ℕ → Bool
-dashed w = (nat_le 2 (length w) && slice_index w 0 == 45) && slice_index w 1 == 45
+dashed w = starts_with nat_eq w (codes "--")
 
 -- a text is none of the options
 pub record NoOption (w : List ℕ) : Type 0 where

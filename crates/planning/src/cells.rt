@@ -2,54 +2,39 @@
 ghost use Rattle.std.specs.Prelude.{◌≡◌};
 ghost use Rattle.std.specs.Option.{option_map};
 ghost use Rattle.std.specs.List.{slice_get};
+ghost use Rattle.hosts.specs.Meaning.{row_of};
 ghost use Rattle.planning.specs.Rows.{cell_line};
-ghost use Rattle.planning.specs.declared.texts.Row.TheVariants as row;
 
-use crate::texts::{CellText, Row};
-use hosts::Host;
+use crate::texts::CellText;
+use hosts::{Host, Row};
 use std::io;
 
-// Variable i of a host, if there is one.
-pub fn variable_text<H: Host>(host: &H, i: usize) -> Option<CellText>
-    ensures { result ≡ option_map (cell_line row.Variable i) (slice_get (H.means host.now).variables i) }
+// Cell i of a row of a host, if there is one.
+pub fn cell_text<H: Host>(host: &H, row: Row, i: usize) -> Option<CellText>
+    ensures { result ≡ option_map (cell_line row i) (slice_get (row_of (H.means host.now) row) i) }
 {
-    match (host.variable_trusted(i), host.variable(i)) {
-        (Ok(trusted), Ok(value)) => Some(CellText {
-            row: Row::Variable,
-            number: i,
-            trusted,
-            value,
-        }),
-        _ => None,
-    }
+    let trusted = host.trusted(row, i).ok()?;
+    let value = host.value(row, i).ok()?;
+    Some(CellText {
+        row,
+        number: i,
+        trusted,
+        value,
+    })
 }
 
-// Binding i of a host, if there is one.
-pub fn binding_text<H: Host>(host: &H, i: usize) -> Option<CellText>
-    ensures { result ≡ option_map (cell_line row.Binding i) (slice_get (H.means host.now).bindings i) }
-{
-    match (host.binding_trusted(i), host.binding(i)) {
-        (Ok(trusted), Ok(value)) => Some(CellText {
-            row: Row::Binding,
-            number: i,
-            trusted,
-            value,
-        }),
-        _ => None,
-    }
-}
-
-// Prints the variables, and then the bindings.
-pub fn print_cells<H: Host>(rt: &impl Print, host: &H) -> io::Result<()> {
-    for i in 0..host.variable_count() {
-        if let Some(text) = variable_text(host, i) {
-            println!(rt; "{text}")?;
-        }
-    }
-    for i in 0..host.binding_count() {
-        if let Some(text) = binding_text(host, i) {
+// Prints the cells of a row, by number, since a host answers by number alone.
+fn print_row<H: Host>(rt: &impl Print, host: &H, row: Row) -> io::Result<()> {
+    for i in 0..host.count(row) {
+        if let Some(text) = cell_text(host, row, i) {
             println!(rt; "{text}")?;
         }
     }
     Ok(())
+}
+
+// Prints the variables, and then the bindings.
+pub fn print_cells<H: Host>(rt: &impl Print, host: &H) -> io::Result<()> {
+    print_row(rt, host, Row::Variables)?;
+    print_row(rt, host, Row::Bindings)
 }

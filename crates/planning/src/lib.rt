@@ -7,8 +7,8 @@ mod program;
 mod running;
 mod texts;
 
-pub use cells::{binding_text, print_cells, variable_text};
+pub use cells::{cell_text, print_cells};
 pub use options::{Options, Plan, argument_value};
 pub use program::{run, run_planned};
-pub use running::{frame_for, run_parcel, verdict_of};
-pub use texts::{CellText, Outcome, Row, StepText, ValueText};
+pub use running::{frame_for, run_parcel};
+pub use texts::{CellText, Outcome, Ran, StepText};

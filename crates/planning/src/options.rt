@@ -1,12 +1,14 @@
 // The words of the command line.
-ghost use Rattle.std.specs.Prelude.{◌≡◌, ℕ, List, [], ◌∷◌, ◌++◌, IfOk, OnOk};
-ghost use Rattle.planning.specs.Words.{dashed, Is, Count, Number, ArgumentOf};
+ghost use Rattle.std.specs.Prelude.{◌≡◌, ℕ, List, [], Ok, Some, None, IfOk, OnOk};
+ghost use Rattle.planning.specs.Words.{Is, ArgumentOf};
 ghost use Rattle.planning.specs.Commands.{texts_of, Drafted, GoesOnWith, Gives};
-ghost use Rattle.planning.specs.declared.options.Awaited.TheVariants as await;
+ghost use Rattle.planning.specs.Texts.{awaited_text};
 ghost use Rattle.planning.specs.declared.options.Word.TheVariants as kind;
 
-use anyhow::anyhow;
+use anyhow::{anyhow, bail, ensure};
 use std::alloc::Global;
+use std::fmt;
+use std::str::FromStr;
 use values::{SmallInteger, Value};
 
 // How many steps a parcel may make where nothing else is said.
@@ -40,40 +42,48 @@ enum Word {
     Unknown,
 }
 
-// What the next word is the number of, if it is one.
-#[derive(Clone, Copy)]
-enum Awaited {
-    Nothing,
-    Steps,
-    Argument,
-}
+// A word that begins with `--` is an option, and every other one a path.
+impl From<&str> for Word {
+    ghost from_gives = { λ w k. Is w.now k };
 
-// Whether a text begins with two dashes.
-fn begins_dashed(word: &str) -> bool
-    ensures { result ≡ dashed word.now }
-{
-    let bytes = word.as_bytes();
-    bytes.len() >= 2 && bytes[0] == b'-' && bytes[1] == b'-'
-}
-
-impl Word {
-    // A word that begins with `--` is an option, and every other one a path.
-    fn of(word: &str) -> Word
-        ensures { Is word.now result }
-    {
+    fn from(word: &str) -> Word {
         match word {
             "--trace" => Word::Trace,
             "--trusted" => Word::Trusted,
             "--steps" => Word::Steps,
             "--argument" => Word::Argument,
-            _ => {
-                if begins_dashed(word) {
-                    Word::Unknown
-                } else {
-                    Word::Path
-                }
-            }
+            _ if word.starts_with("--") => Word::Unknown,
+            _ => Word::Path,
         }
+    }
+}
+
+// An option whose number the next word is. It is printed as the beginning of what is wrong with that word.
+#[derive(Clone, Copy)]
+enum Awaited {
+    Steps,
+    Argument,
+}
+
+impl fmt::Display for Awaited {
+    ghost output = { λ a. Some (awaited_text a) };
+
+    fn fmt<W: fmt::Write>(&self, f: &mut fmt::Formatter<W>) -> fmt::Result {
+        match *self {
+            Awaited::Steps => write!(f, "--steps: no count"),
+            Awaited::Argument => write!(f, "--argument: no number"),
+        }
+    }
+}
+
+impl Awaited {
+    // The number that a word is, in decimal.
+    fn number<T: FromStr>(self, word: &str) -> anyhow::Result<T>
+    where
+        T::Err: Drop,
+        ensures { IfOk result (λ n. T.from_str_gives word.now (Ok n)) }
+    {
+        word.parse().map_err(|_| anyhow!("{self}: {word}"))
     }
 }
 
@@ -85,32 +95,12 @@ pub fn argument_value(n: i64) -> Value
     Value::Integer(SmallInteger::new(low.cast_signed()))
 }
 
-// A number that follows an option.
-fn number_of(heap: Global, option: &str, word: &str) -> anyhow::Result<i64>
-    ensures { IfOk result (λ n. Number word.now n) }
-{
-    match word.parse::<i64>() {
-        Ok(n) => Ok(n),
-        Err(_) => Err(anyhow!(format!(in heap; "{option}: no number: {word}")?)),
-    }
-}
-
-// A count that follows an option.
-fn count_of(heap: Global, option: &str, word: &str) -> anyhow::Result<u64>
-    ensures { IfOk result (λ n. Count word.now n) }
-{
-    match word.parse::<u64>() {
-        Ok(n) => Ok(n),
-        Err(_) => Err(anyhow!(format!(in heap; "{option}: no count: {word}")?)),
-    }
-}
-
 // What the words so far say: a plan, and the paths in their order.
 #[derive(Drop)]
 struct Draft {
     plan: Plan,
     paths: Vec<String>,
-    awaited: Awaited,
+    awaited: Option<Awaited>,
 }
 
 impl Draft {
@@ -126,34 +116,29 @@ impl Draft {
                 arguments: Vec::new(heap),
             },
             paths: Vec::new(heap),
-            awaited: Awaited::Nothing,
+            awaited: None,
         }
     }
 
-    // Takes the count after `--steps`.
-    fn take_steps(&mut self, heap: Global, word: &str) -> anyhow::Result<()>
-        requires { self.old.awaited ≡ await.Steps }
+    // Takes the number after an option.
+    fn take_number(&mut self, option: Awaited, word: &str) -> anyhow::Result<()>
+        requires { self.old.awaited ≡ Some option }
         ensures { OnOk result (GoesOnWith word.now self.old self.new) }
     {
-        self.plan.steps = count_of(heap, "--steps", word)?;
-        self.awaited = Awaited::Nothing;
-        Ok(())
-    }
-
-    // Takes the number after `--argument`.
-    fn take_argument(&mut self, heap: Global, word: &str) -> anyhow::Result<()>
-        requires { self.old.awaited ≡ await.Argument }
-        ensures { OnOk result (GoesOnWith word.now self.old self.new) }
-    {
-        let n = number_of(heap, "--argument", word)?;
-        self.plan.arguments.push(argument_value(n))?;
-        self.awaited = Awaited::Nothing;
+        match option {
+            Awaited::Steps => self.plan.steps = option.number(word)?,
+            Awaited::Argument => {
+                let argument = argument_value(option.number(word)?);
+                self.plan.arguments.push(argument)?;
+            }
+        }
+        self.awaited = None;
         Ok(())
     }
 
     // Takes a path.
     fn take_path(&mut self, heap: Global, word: &str) -> anyhow::Result<()>
-        requires plain { self.old.awaited ≡ await.Nothing }
+        requires plain { self.old.awaited ≡ None }
         requires path { Is word.now kind.Path }
         ensures { OnOk result (GoesOnWith word.now self.old self.new) }
     {
@@ -164,39 +149,27 @@ impl Draft {
 
     // Takes a word that is no number after an option.
     fn take_word(&mut self, heap: Global, word: &str) -> anyhow::Result<()>
-        requires { self.old.awaited ≡ await.Nothing }
+        requires { self.old.awaited ≡ None }
         ensures { OnOk result (GoesOnWith word.now self.old self.new) }
     {
-        match Word::of(word) {
-            Word::Trace => {
-                self.plan.trace = true;
-                Ok(())
-            }
-            Word::Trusted => {
-                self.plan.trusted = true;
-                Ok(())
-            }
-            Word::Steps => {
-                self.awaited = Awaited::Steps;
-                Ok(())
-            }
-            Word::Argument => {
-                self.awaited = Awaited::Argument;
-                Ok(())
-            }
-            Word::Path => self.take_path(heap, word),
-            Word::Unknown => Err(anyhow!(format!(in heap; "unknown option: {word}")?)),
+        match Word::from(word) {
+            Word::Trace => self.plan.trace = true,
+            Word::Trusted => self.plan.trusted = true,
+            Word::Steps => self.awaited = Some(Awaited::Steps),
+            Word::Argument => self.awaited = Some(Awaited::Argument),
+            Word::Path => self.take_path(heap, word)?,
+            Word::Unknown => bail!("unknown option: {word}"),
         }
+        Ok(())
     }
 
-    // Takes the next word.
+    // Takes the next word: what is awaited says how. A function stored for it would only say it again.
     fn take(&mut self, heap: Global, word: &str) -> anyhow::Result<()>
         ensures { OnOk result (GoesOnWith word.now self.old self.new) }
     {
         match self.awaited {
-            Awaited::Nothing => self.take_word(heap, word),
-            Awaited::Steps => self.take_steps(heap, word),
-            Awaited::Argument => self.take_argument(heap, word),
+            None => self.take_word(heap, word),
+            Some(option) => self.take_number(option, word),
         }
     }
 
@@ -204,19 +177,13 @@ impl Draft {
     fn finish(self) -> anyhow::Result<Options>
         ensures { IfOk result (λ o. (ws : List (List ℕ)) → Drafted self ws → Gives ws o) }
     {
-        match self.awaited {
-            Awaited::Nothing => {}
-            Awaited::Steps => return Err(anyhow!("--steps: no count follows")),
-            Awaited::Argument => return Err(anyhow!("--argument: no number follows")),
+        if let Some(option) = self.awaited {
+            bail!("{option} follows");
         }
         let mut paths = self.paths;
-        if paths.is_empty() {
-            return Err(anyhow!("no week file is named"));
-        }
+        ensure!(!paths.is_empty(), "no week file is named");
         let week = paths.remove(0);
-        if paths.is_empty() {
-            return Err(anyhow!("no parcel is named"));
-        }
+        ensure!(!paths.is_empty(), "no parcel is named");
         Ok(Options {
             plan: self.plan,
             week,

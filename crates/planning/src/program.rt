@@ -1,28 +1,24 @@
 // The program over files.
-ghost use Rattle.std.specs.Prelude.{◌≡◌, false, length, IfOk, None, OnOk};
+ghost use Rattle.std.specs.Prelude.{◌≡◌, length, IfOk, None, OnOk};
 ghost use Rattle.week_file.specs.Files.{why_refused};
 ghost use Rattle.planning.specs.Commands.{texts_of, Sensible};
-ghost use Rattle.hosts.specs.Meaning.{marks_of};
-ghost use Rattle.planning.specs.Keeping.{KeepsTrusted};
+ghost use Rattle.planning.specs.Keeping.{StaysWithin};
 ghost use Rattle.planning.specs.Turns.{InTurn};
 
 use crate::cells::print_cells;
 use crate::options::{Options, Plan};
 use crate::running::run_parcel;
-use anyhow::anyhow;
+use anyhow::{anyhow, bail};
 use arithmetic::Arithmetic;
 use hosts::Host;
 use listing::Verdict;
 use std::alloc::Global;
 use std::fs;
-use week_file::{WeekFile, refusal};
+use week_file::{WeekFile, check_file};
 
 // The bytes of a file, or an error with its path.
 fn bytes_of(rt: &HostRuntime, what: &str, path: &str) -> anyhow::Result<Vec<u8>> {
-    match fs::read(rt, path) {
-        Ok(bytes) => Ok(bytes),
-        Err(error) => Err(anyhow!(format!(in rt.alloc(); "{what} {path}: {error}")?)),
-    }
+    fs::read(rt, path).map_err(|error| anyhow!("{what} {path}: {error}"))
 }
 
 // The week file as a host with arithmetic. Where it is refused, that is printed, and an error too.
@@ -30,23 +26,22 @@ fn open_week(rt: &HostRuntime, path: &str) -> anyhow::Result<Arithmetic<WeekFile
     ensures { IfOk result (λ h. why_refused h.below.bytes.items ≡ None) }
 {
     let bytes = bytes_of(rt, "week file", path)?;
-    if let Some(fault) = refusal(&bytes) {
-        let verdict = Verdict::Refused(fault);
+    if let Err(fault) = check_file(&bytes) {
+        let verdict = Verdict(Err(fault));
         println!(rt; "week file {path}: {verdict}")?;
-        return Err(anyhow!("the week file is refused"));
+        bail!("the week file is refused");
     }
     Ok(Arithmetic::new(WeekFile::open(bytes)))
 }
 
-// Runs the parcels at these paths in turn on one host.
+// Runs the parcels at these paths in turn on one host. Plan and host stay two parameters, as where one parcel is run.
 fn run_all<H: Host>(
     rt: &HostRuntime,
     plan: &Plan,
     host: &mut H,
     paths: &[String],
 ) -> anyhow::Result<()>
-    ensures kept { plan.now.trusted ≡ false → KeepsTrusted (H.means host.old) (H.means host.new) }
-    ensures marks { marks_of (H.means host.new) ≡ marks_of (H.means host.old) }
+    ensures within { StaysWithin plan.now (H.means host.old) (H.means host.new) }
     ensures handled { OnOk result (InTurn H.means H.may plan.now host.old (length paths.now) host.new) }
 {
     for path in paths {
@@ -60,8 +55,7 @@ fn run_all<H: Host>(
 pub fn run_planned(rt: &HostRuntime, options: &Options) -> anyhow::Result<()> {
     let mut host = open_week(rt, &options.week)?;
     run_all(rt, &options.plan, &mut host, &options.parcels)?;
-    print_cells(rt, &host)?;
-    Ok(())
+    Ok(print_cells(rt, &host)?)
 }
 
 // The whole program, on the words after its name.

@@ -1,49 +1,30 @@
 // One parcel on a host: the check, the opening, and steps up to a budget.
-ghost use Rattle.std.specs.Prelude.{◌≡◌, false, replicate, IfOk, OnOk};
-ghost use Rattle.hosts.specs.Meaning.{marks_of};
-ghost use Rattle.stages.specs.Check.{checked};
-ghost use Rattle.listing.specs.Listed.{verdict};
+// A struct that lends plan and host to methods is no plainer: each contract then also owes that the plan stays, and names both by longer paths.
+ghost use Rattle.std.specs.Prelude.{◌≡◌, replicate, IfOk, OnOk};
 ghost use Rattle.engine.specs.View.{view};
 ghost use Rattle.planning.specs.Frames.{cells_in, frame_of};
-ghost use Rattle.planning.specs.Keeping.{KeepsTrusted, Going, LeadsOn, Followed, Played};
-ghost use Rattle.planning.specs.declared.texts.Outcome.TheVariants.{Ran};
+ghost use Rattle.planning.specs.Keeping.{StaysWithin, Going, LeadsOn, Followed, Played};
 ghost use Rattle.histories.specs.Opening.{opened, empty};
 ghost use Rattle.planning.specs.Meeting.{next_text};
 ghost use Rattle.planning.specs.Turns.{Handled};
 ghost use Rattle.parcels.specs.Parts.{parts_of};
 
 use crate::options::Plan;
-use crate::texts::{Outcome, StepText};
-use checker::check;
+use crate::texts::{Outcome, Ran, StepText};
 use engine::Run;
 use hosts::Host;
-use listing::Verdict;
+use listing::verdict_of;
 use parcels::Parcel;
 use scripts::State;
 use std::alloc::{AllocError, Global};
 use std::io;
 use values::Value;
 
-// What a check finds.
-pub fn verdict_of<H: Host>(host: &H, bytes: &[u8], trusted: bool) -> Verdict
-    ensures { result ≡ verdict (checked (marks_of (H.means host.now)) trusted bytes.now (replicate 2048 0) (replicate 2048 0)).verdict }
-{
-    let mut heights = [0u8; 2048];
-    let mut waiting = [0u16; 2048];
-    match check(host, bytes, trusted, &mut heights, &mut waiting) {
-        Ok(height) => Verdict::Accepted(height),
-        Err(fault) => Verdict::Refused(fault),
-    }
-}
-
 // How many cells a parcel's frame has.
 fn frame_cells(bytes: &[u8]) -> usize
     ensures { result ≡ cells_in (parts_of bytes.now) }
 {
-    match Parcel::read(bytes) {
-        Ok(parcel) => parcel.layout.arguments as usize + parcel.layout.slots as usize,
-        Err(_) => 0,
-    }
+    Parcel::read(bytes).map_or(0, |parcel| parcel.layout.cells())
 }
 
 // The frame of a parcel, before it is opened.
@@ -57,15 +38,13 @@ pub fn frame_for(heap: Global, bytes: &[u8]) -> Result<Vec<Value>, AllocError>
 fn step_text(number: u64, run: &Run) -> Option<StepText>
     ensures { result ≡ next_text number (view run.now) }
 {
-    match run.opcode() {
-        Some(opcode) => Some(StepText {
-            number,
-            place: run.place(),
-            height: run.height(),
-            opcode,
-        }),
-        None => None,
-    }
+    let opcode = run.opcode()?;
+    Some(StepText {
+        number,
+        place: run.place(),
+        height: run.height(),
+        opcode,
+    })
 }
 
 // Prints what the next step meets, if it is to be printed.
@@ -79,43 +58,39 @@ fn announce(rt: &impl Print, trace: bool, number: u64, run: &Run) -> io::Result<
 }
 
 // Where a run is after so many steps.
-fn outcome_after(run: &Run, steps: u64) -> Outcome
-    ensures { result ≡ Ran (view run.now).state (view run.now).place steps }
+fn ran_for(run: &Run, steps: u64) -> Ran
+    ensures { result ≡ record { state = (view run.now).state; place = (view run.now).place; steps = steps } }
 {
-    Outcome::Ran {
+    Ran {
         state: run.state(),
         place: run.place(),
         steps,
     }
 }
 
-// Steps a run until it is live no more or the budget is spent. No step is refused.
+// Steps a run until it is live no more or the budget is spent. No step is refused. The number of the steps made is what is printed.
 fn follow<H: Host>(
     rt: &impl Print,
     plan: &Plan,
     run: &mut Run,
     host: &mut H,
     frame: &mut [Value],
-) -> io::Result<Outcome>
+) -> io::Result<Ran>
     requires { Going H.means H.may host.old (view run.old) frame.old }
     ensures leads { LeadsOn H.means H.may host.old (view run.old) host.new (view run.new) }
-    ensures outcome { IfOk result (λ o. Followed H.means H.may plan.now.steps host.old (view run.old) frame.old o host.new (view run.new) frame.new) }
+    ensures ran { IfOk result (λ r. Followed H.means H.may plan.now.steps host.old (view run.old) frame.old r host.new (view run.new) frame.new) }
 {
     for k in 0..plan.steps {
-        match run.state() {
-            State::Live => {}
-            _ => return Ok(outcome_after(run, k)),
-        }
+        let State::Live = run.state() else {
+            return Ok(ran_for(run, k));
+        };
         announce(rt, plan.trace, k + 1, run)?;
-        match run.step(host, frame) {
-            Ok(()) => {}
-            Err(_) => unreachable(),
-        }
+        run.step(host, frame).unwrap();
     }
-    Ok(outcome_after(run, plan.steps))
+    Ok(ran_for(run, plan.steps))
 }
 
-// Opens a parcel and steps it.
+// Opens a parcel and steps it. The lists have an entry for every pair that a code can have, and lie on the stack: an opening asks for no memory.
 fn play<H: Host>(
     rt: &impl Print,
     plan: &Plan,
@@ -123,14 +98,13 @@ fn play<H: Host>(
     bytes: &[u8],
     frame: &mut [Value],
 ) -> io::Result<Outcome>
-    ensures kept { plan.now.trusted ≡ false → KeepsTrusted (H.means host.old) (H.means host.new) }
-    ensures marks { marks_of (H.means host.new) ≡ marks_of (H.means host.old) }
+    ensures within { StaysWithin plan.now (H.means host.old) (H.means host.new) }
     ensures outcome { IfOk result (λ o. Played H.means H.may (opened (H.means host.old) plan.now.trusted bytes.now plan.now.arguments.items frame.old (replicate 2048 0) (replicate 2048 0) empty) plan.now.steps host.old o host.new frame.new) }
 {
     let mut heights = [0u8; 2048];
     let mut waiting = [0u16; 2048];
     let mut run = Run::empty();
-    match run.open(
+    if let Err(fault) = run.open(
         host,
         bytes,
         plan.trusted,
@@ -139,9 +113,10 @@ fn play<H: Host>(
         &mut heights,
         &mut waiting,
     ) {
-        Ok(_) => follow(rt, plan, &mut run, host, frame),
-        Err(fault) => Ok(Outcome::Refused(fault)),
+        return Ok(Outcome(Err(fault)));
     }
+    let ran = follow(rt, plan, &mut run, host, frame)?;
+    Ok(Outcome(Ok(ran)))
 }
 
 // Checks a parcel on a host, and opens and steps it where it is accepted. The lines of both are printed under its path.
@@ -152,19 +127,16 @@ pub fn run_parcel<H: Host>(
     path: &str,
     bytes: &[u8],
 ) -> io::Result<()>
-    ensures kept { plan.now.trusted ≡ false → KeepsTrusted (H.means host.old) (H.means host.new) }
-    ensures marks { marks_of (H.means host.new) ≡ marks_of (H.means host.old) }
+    ensures within { StaysWithin plan.now (H.means host.old) (H.means host.new) }
     ensures handled { OnOk result (Handled H.means H.may plan.now bytes.now host.old host.new) }
 {
     let verdict = verdict_of(host, bytes, plan.trusted);
     println!(rt; "parcel {path}: {verdict}")?;
-    match verdict {
-        Verdict::Refused(_) => Ok(()),
-        Verdict::Accepted(_) => {
-            let mut frame = frame_for(rt.alloc(), bytes)?;
-            let outcome = play(rt, plan, host, bytes, &mut frame)?;
-            println!(rt; "parcel {path}: {outcome}")?;
-            Ok(())
-        }
+    if verdict.0.is_err() {
+        return Ok(());
     }
+    let mut frame = frame_for(rt.alloc(), bytes)?;
+    let outcome = play(rt, plan, host, bytes, &mut frame)?;
+    println!(rt; "parcel {path}: {outcome}")?;
+    Ok(())
 }

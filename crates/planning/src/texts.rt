@@ -1,36 +1,14 @@
-// What is printed of values, steps, outcomes and cells.
+// What is printed of steps, outcomes and cells.
 ghost use Rattle.std.specs.Prelude.{Some};
-ghost use Rattle.planning.specs.Texts.{value_text, step_text, outcome_text, cell_text};
+ghost use Rattle.planning.specs.Texts.{step_text, ran_text, outcome_text, cell_text};
 
+use hosts::Row;
 use parcels::Ending;
 use scripts::{State, Stop};
 use std::fmt;
 use values::{Fault, Value};
 
-// A value, for a person.
-#[derive(Clone, Copy)]
-pub struct ValueText(pub Value);
-
-impl fmt::Display for ValueText {
-    ghost output = { λ t. Some (value_text t.0) };
-
-    fn fmt<W: fmt::Write>(&self, f: &mut fmt::Formatter<W>) -> fmt::Result {
-        match self.0 {
-            Value::Nil => write!(f, "nil"),
-            Value::True => write!(f, "true"),
-            Value::False => write!(f, "false"),
-            Value::Integer(s) => {
-                let n = s.get();
-                write!(f, "integer {n}")
-            }
-            Value::Object(n) => write!(f, "object {n}"),
-            Value::Block(n) => write!(f, "block {n}"),
-            Value::Closure(n) => write!(f, "closure {n}"),
-        }
-    }
-}
-
-// A step that is about to be made: its number, from 1, and what it meets.
+// A step that is about to be made: its number, from 1, and what it meets, with the opcode as the byte that it is.
 #[derive(Clone, Copy)]
 pub struct StepText {
     pub number: u64,
@@ -43,10 +21,12 @@ impl fmt::Display for StepText {
     ghost output = { λ t. Some (step_text t) };
 
     fn fmt<W: fmt::Write>(&self, f: &mut fmt::Formatter<W>) -> fmt::Result {
-        let number = self.number;
-        let place = self.place;
-        let height = self.height;
-        let opcode = self.opcode;
+        let StepText {
+            number,
+            place,
+            height,
+            opcode,
+        } = *self;
         write!(
             f,
             "step {number}: place {place} height {height} opcode {opcode}"
@@ -54,61 +34,56 @@ impl fmt::Display for StepText {
     }
 }
 
-// What came of an accepted parcel: it was not opened, or not stepped on, or it ran for so many steps and is now in a state at a place.
+// How an opened parcel ran: its state and its place after so many steps.
 #[derive(Clone, Copy)]
-pub enum Outcome {
-    Refused(Fault),
-    Ran {
-        state: State,
-        place: usize,
-        steps: u64,
-    },
+pub struct Ran {
+    pub state: State,
+    pub place: usize,
+    pub steps: u64,
 }
+
+impl fmt::Display for Ran {
+    ghost output = { λ r. Some (ran_text r) };
+
+    fn fmt<W: fmt::Write>(&self, f: &mut fmt::Formatter<W>) -> fmt::Result {
+        let Ran {
+            state,
+            place,
+            steps,
+        } = *self;
+        match state {
+            State::Live => write!(f, "live at {place} after {steps} steps"),
+            State::Ended { how, value } => {
+                let how = match how {
+                    Ending::Return => "return",
+                    Ending::MethodReturn => "method return",
+                };
+                write!(f, "ended by {how} with {value} after {steps} steps")
+            }
+            State::Stopped(Stop::NotUnderstood { selector }) => write!(
+                f,
+                "stopped at {place}, message {selector} not understood, after {steps} steps"
+            ),
+            State::Stopped(Stop::NoBlock) => {
+                write!(f, "stopped at {place}, no block, after {steps} steps")
+            }
+        }
+    }
+}
+
+// What came of an accepted parcel: how it ran, or why it was not opened.
+#[derive(Clone, Copy)]
+pub struct Outcome(pub Result<Ran, Fault>);
 
 impl fmt::Display for Outcome {
     ghost output = { λ o. Some (outcome_text o) };
 
     fn fmt<W: fmt::Write>(&self, f: &mut fmt::Formatter<W>) -> fmt::Result {
-        match *self {
-            Outcome::Refused(fault) => {
-                let number = fault.number();
-                let place = fault.place();
-                write!(f, "refused {number} at {place}")
-            }
-            Outcome::Ran {
-                state,
-                place,
-                steps,
-            } => match state {
-                State::Live => write!(f, "live at {place} after {steps} steps"),
-                State::Ended { how, value } => {
-                    let text = ValueText(value);
-                    match how {
-                        Ending::Return => {
-                            write!(f, "ended by return with {text} after {steps} steps")
-                        }
-                        Ending::MethodReturn => {
-                            write!(f, "ended by method return with {text} after {steps} steps")
-                        }
-                    }
-                }
-                State::Stopped(Stop::NotUnderstood { selector }) => write!(
-                    f,
-                    "stopped at {place}, message {selector} not understood, after {steps} steps"
-                ),
-                State::Stopped(Stop::NoBlock) => {
-                    write!(f, "stopped at {place}, no block, after {steps} steps")
-                }
-            },
+        match self.0 {
+            Ok(ran) => write!(f, "{ran}"),
+            Err(fault) => write!(f, "{fault}"),
         }
     }
-}
-
-// A variable or a binding.
-#[derive(Clone, Copy)]
-pub enum Row {
-    Variable,
-    Binding,
 }
 
 // A cell of a host: its row and its number there, its mark and its value.
@@ -124,13 +99,17 @@ impl fmt::Display for CellText {
     ghost output = { λ t. Some (cell_text t) };
 
     fn fmt<W: fmt::Write>(&self, f: &mut fmt::Formatter<W>) -> fmt::Result {
-        let row = match self.row {
-            Row::Variable => "variable",
-            Row::Binding => "binding",
+        let CellText {
+            row,
+            number,
+            trusted,
+            value,
+        } = *self;
+        let row = match row {
+            Row::Variables => "variable",
+            Row::Bindings => "binding",
         };
-        let number = self.number;
-        let mark = if self.trusted { "trusted" } else { "open" };
-        let text = ValueText(self.value);
-        write!(f, "{row} {number}: {mark} {text}")
+        let mark = if trusted { "trusted" } else { "open" };
+        write!(f, "{row} {number}: {mark} {value}")
     }
 }

@@ -35,10 +35,10 @@ module _ {S : Type 0} (means : S → Meaning) (may : S → Sent → Value → S 
     where
       by : ((v : Value) (t : S) → Runs means may literals (k v) f t o f' s' → P p h) → (b : Bool) → Sends b m k f s o f' s' → P p h
       by more true x = more x.0 x.1 x.3
-      by more false x = let q = x.0 in let z : ◌≡◌ {A = ℕ} 0 1 = cc in absurd (omega arith)
+      by more false x = let q = x.0 in absurd cc
   leads P (go q k) f s o f' s' l r p h e = let x = r.0 in let a : q ≡ p = cc in let b : k ≡ h = cc in subst (λ (y : ℕ). P y h) a (subst (λ (y : ℕ). P q y) b l)
-  leads P (end w v) f s o f' s' l r p h e = let x = r.0 in let z : ◌≡◌ {A = ℕ} 0 1 = cc in absurd (omega arith)
-  leads P no_block f s o f' s' l r p h e = let x = r.0 in let z : ◌≡◌ {A = ℕ} 0 1 = cc in absurd (omega arith)
+  leads P (end w v) f s o f' s' l r p h e = let x = r.0 in absurd cc
+  leads P no_block f s o f' s' l r p h e = let x = r.0 in absurd cc
   leads P stuck f s o f' s' l r p h e = absurd r
 
   -- a quiet script does not stop
@@ -79,7 +79,7 @@ module _ {S : Type 0} (means : S → Meaning) (may : S → Sent → Value → S 
   ended : {c : Script} {f : List Value} {m : Meaning} {o : Outcome} → ((x : Stop) → o ≡ stops x → ⊥) → sent_by literals c f m ≡ None → (LacksBlock literals c f m → ⊥) → StopsBecause c f m o
   ended no_stop none no-lack = record {
     unknown = λ n q. absurd (no_stop (NotUnderstood n) q);
-    told = λ x q k. let z : ◌≡◌ {A = ℕ} 0 1 = cc in absurd (omega arith);
+    told = λ x q k. absurd cc;
     blockless = λ q. absurd (no_stop NoBlock q);
     lacking = λ q. absurd (no-lack q);
   }
@@ -124,21 +124,21 @@ module _ {S : Type 0} (means : S → Meaning) (may : S → Sent → Value → S 
       by : (b : Bool) → (means s).understands m ≡ b → Sends b m k f s o f' s' → StopsBecause (send m k) f (means s) o
       by true u x = record {
         unknown = λ n e. absurd (quiet (k x.0) f x.1 o f' s' (q x.0) x.3 (NotUnderstood n) e);
-        told = λ y e w. let same : m ≡ y = cc in let z : ◌≡◌ {A = ℕ} 0 1 = cc in absurd (omega arith);
+        told = λ y e w. let same : m ≡ y = cc in absurd cc;
         blockless = λ e. absurd (quiet (k x.0) f x.1 o f' s' (q x.0) x.3 NoBlock e);
         lacking = λ a. absurd a;
       }
       by false u x = record {
         unknown = λ n e. let p = x.0 in let same : m.selector ≡ n = cc in (m, refl, u, same);
         told = λ y e w. let same : m ≡ y = cc in x.0 ∙ ap (λ (a : Sent). stops (NotUnderstood a.selector)) same;
-        blockless = λ e. let p = x.0 in let z : ◌≡◌ {A = ℕ} 0 1 = cc in absurd (omega arith);
+        blockless = λ e. let p = x.0 in absurd cc;
         lacking = λ a. absurd a;
       }
   because (go p h) f s o f' s' q r = ended (λ x e. let y = r.0 in let z : ◌≡◌ {A = ℕ} 0 1 = cc in omega arith) refl (λ a. a)
   because (end w v) f s o f' s' q r = ended (λ x e. let y = r.0 in let z : ◌≡◌ {A = ℕ} 0 1 = cc in omega arith) refl (λ a. a)
   because no_block f s o f' s' q r = record {
-    unknown = λ n e. let y = r.0 in let z : ◌≡◌ {A = ℕ} 0 1 = cc in absurd (omega arith);
-    told = λ x e k. let z : ◌≡◌ {A = ℕ} 0 1 = cc in absurd (omega arith);
+    unknown = λ n e. let y = r.0 in absurd cc;
+    told = λ x e k. absurd cc;
     blockless = λ e. tt;
     lacking = λ a. r.0;
   }

@@ -31,7 +31,7 @@ open_trans (c ∷ cs) (d ∷ ds) (e ∷ es) h k = (k.0 ∙ h.0, (λ t. k.1 (h.0 
 -- a write to a cell that is not trusted
 pub put_open : (cs : List Cell) (i : ℕ) (v : Value) → marked (marks cs) i ≡ false → OpenOnly cs (put cs i v)
 put_open [] i v h = tt
-put_open (c ∷ cs) zero v h = (refl, (λ t. let z : ◌≡◌ {A = ℕ} 0 1 = cc in absurd (omega arith)), open_same cs)
+put_open (c ∷ cs) zero v h = (refl, (λ t. absurd cc), open_same cs)
 put_open (c ∷ cs) (suc i) v h = (refl, (λ t. refl), put_open cs i v h)
 
 joined : (m n : Meaning) → marks n.variables ≡ marks m.variables → marks n.bindings ≡ marks m.bindings → marks_of n ≡ marks_of m

@@ -72,9 +72,9 @@ module _ {S : Type 0} (means : S → Meaning) (may : S → Sent → Value → S 
     spares_beyond (read_literal i k) w = spares_beyond (k (literal literals i)) w.1
     spares_beyond (read_receiver k) w = λ v. spares_beyond (k v) (w v)
     spares_beyond (read_variable i k) w = λ v. spares_beyond (k v) (w.1 v)
-    spares_beyond (write_variable i v k) w = (λ e. let z : ◌≡◌ {A = ℕ} 0 1 = cc in absurd (omega arith), spares_beyond k w.1)
+    spares_beyond (write_variable i v k) w = (λ e. absurd cc, spares_beyond k w.1)
     spares_beyond (read_binding i k) w = λ v. spares_beyond (k v) (w.1 v)
-    spares_beyond (write_binding i v k) w = (λ e. let z : ◌≡◌ {A = ℕ} 0 1 = cc in absurd (omega arith), spares_beyond k w.1)
+    spares_beyond (write_binding i v k) w = (λ e. absurd cc, spares_beyond k w.1)
     spares_beyond (send x k) w = (tt, λ v. spares_beyond (k v) (w v))
     spares_beyond (go q h) w = tt
     spares_beyond (end e v) w = tt
@@ -159,8 +159,8 @@ module _ {S : Type 0} (means : S → Meaning) (may : S → Sent → Value → S 
       by : (b c : Bool) → c ≡ b → Sends means may literals b m k f s o f' s' → Sends means may literals c m k g t a g' t' → a ≡ o
       by true true q y z = landed w.0 w.1 (k z.0) g z.1 a g' t' (w.2 z.0) z.3 ∙ sym (landed w.0 w.1 (k y.0) f y.1 o f' s' (w.2 y.0) y.3)
       by false false q y z = z.0 ∙ sym y.0
-      by true false q y z = let n : ◌≡◌ {A = ℕ} 0 1 = cc in absurd (omega arith)
-      by false true q y z = let n : ◌≡◌ {A = ℕ} 0 1 = cc in absurd (omega arith)
+      by true false q y z = absurd cc
+      by false true q y z = absurd cc
   same_outcome (go p h) f s o f' s' g t a g' t' w e r x = x.0 ∙ sym r.0
   same_outcome (end q v) f s o f' s' g t a g' t' w e r x = x.0 ∙ sym r.0
   same_outcome no_block f s o f' s' g t a g' t' w e r x = x.0 ∙ sym r.0

@@ -1,8 +1,9 @@
 -- One turn of the encoding stage.
-use Rattle.std.proofs.Common.{◌≡◌, ℕ, zero, suc, ◌+◌, ◌*◌, ◌<◌, ◌≤◌, Bool, false, leb, List, length, Some, None, Ok, Err, Option, sym, refl, ap, ◌∙◌, arith}
+use Rattle.std.proofs.Common.{◌≡◌, ℕ, zero, suc, ◌+◌, ◌*◌, ◌<◌, ◌≤◌, Bool, false, leb, List, length, Some, None, Ok, Err, Option, Result, sym, refl, ap, ◌∙◌, arith}
 use Rattle.std.proofs.lemmas.Bool.{cond-true, cond-false, le-leb, lt-leb}
+use Rattle.std.specs.Result.{MatchResult}
 use Rattle.values.specs.Faults.{fault}
-use Rattle.values.specs.Order.{or_else}
+use Rattle.values.specs.Order.{or_else, unless, and_then}
 use Rattle.values.specs.declared.faults.Fault.{Fault}
 use Rattle.parcels.specs.Reading.{Reading, read_at}
 use Rattle.parcels.specs.declared.reading.Instruction.{Instruction}
@@ -10,54 +11,77 @@ use Rattle.parcels.specs.declared.reading.Unreadable.{Unreadable}
 use Rattle.stages.specs.Encoding.{Setting, site_fault}
 use Rattle.stages.specs.Sweep.{unreadable_rule, pushes_block, site, turned, swept}
 
+-- what is left to find from p on, in at most n instructions
+abbrev left : Setting → ℕ → Bool → ℕ → Result (Unit {0}) Fault
+left x n b p = unless (swept x n b p) (tt {0})
+
+-- all that there is to find
+abbrev pub all : Setting → Result (Unit {0}) Fault
+all x = left x (length x.parts.code) false 0
+
 -- what is left to find from p on is what there was to find
 pub record Sofar (x : Setting) (b : Bool) (p : ℕ) : Type 0 where
   pub fuel : ℕ
   pub enough : length x.parts.code ≤ p + fuel
-  pub same : swept x fuel b p ≡ swept x (length x.parts.code) false 0
+  pub same : left x fuel b p ≡ all x
 
 pub start : (x : Setting) → Sofar x false 0
 start x = record { fuel = length x.parts.code; enough = omega arith; same = refl }
 
 -- nothing is left
-pub ended : (x : Setting) (b : Bool) (p : ℕ) → Sofar x b p → length x.parts.code ≤ p → None ≡ swept x (length x.parts.code) false 0
+pub ended : (x : Setting) (b : Bool) (p : ℕ) → Sofar x b p → length x.parts.code ≤ p → Ok (tt {0}) ≡ all x
 ended x b p s h = by s.fuel s.same
   where
-    by : (n : ℕ) → swept x n b p ≡ swept x (length x.parts.code) false 0 → None ≡ swept x (length x.parts.code) false 0
+    by : (n : ℕ) → left x n b p ≡ all x → Ok (tt {0}) ≡ all x
     by zero q = q
-    by (suc n) q = sym (cond-true (leb (length x.parts.code) p) None _ (le-leb _ _ h)) ∙ q
+    by (suc n) q = ap (λ (o : Option Fault). unless o (tt {0})) (sym (cond-true (leb (length x.parts.code) p) None _ (le-leb _ _ h))) ∙ q
 
 -- the turn at p
 pub record Turn (x : Setting) (b : Bool) (p : ℕ) (r : Reading) : Type 0 where
   pub fuel : ℕ
   pub enough : length x.parts.code ≤ p + suc fuel
-  pub same : turned x (swept x fuel) b p r ≡ swept x (length x.parts.code) false 0
+  pub same : unless (turned x (swept x fuel) b p r) (tt {0}) ≡ all x
 
 pub turn : (x : Setting) (b : Bool) (p : ℕ) (r : Reading) → Sofar x b p → p < length x.parts.code → r ≡ read_at x.parts.code p → Turn x b p r
 turn x b p r s h e = by s.fuel s.enough s.same
   where
-    by : (n : ℕ) → length x.parts.code ≤ p + n → swept x n b p ≡ swept x (length x.parts.code) false 0 → Turn x b p r
+    by : (n : ℕ) → length x.parts.code ≤ p + n → left x n b p ≡ all x → Turn x b p r
     by zero en q = absurd (omega arith)
     by (suc n) en q = record {
       fuel = n;
       enough = en;
-      same = ap (turned x (swept x n) b p) e ∙ sym (cond-false (leb (length x.parts.code) p) None _ (lt-leb _ _ h)) ∙ q;
+      same = ap (λ (o : Option Fault). unless o (tt {0})) (ap (turned x (swept x n) b p) e ∙ sym (cond-false (leb (length x.parts.code) p) None _ (lt-leb _ _ h))) ∙ q;
     }
+
+-- an answer for the first, and then for the second
+in_turn : (o p : Option Fault) → and_then (unless o (tt {0})) (λ _. unless p (tt {0})) ≡ unless (or_else o p) (tt {0})
+in_turn (Some f) p = refl
+in_turn None p = refl
 
 module _ {x : Setting} {b : Bool} {p : ℕ} where
   -- what is read at p is no instruction
-  pub unread : (e : Unreadable) → Turn x b p (Err e) → Some (fault (unreadable_rule e) p) ≡ swept x (length x.parts.code) false 0
+  pub unread : (e : Unreadable) → Turn x b p (Err e) → Err (fault (unreadable_rule e) p) ≡ all x
   unread e t = t.same
 
   module _ (i : Instruction) (rest : List ℕ) (t : Turn x b p (Ok (i, rest))) where
-    -- the instruction at p breaks a rule
-    pub broken : (f : Fault) → Some f ≡ site_fault x (site p b i) → Some f ≡ swept x (length x.parts.code) false 0
-    broken f e = ap (λ (o : Option Fault). or_else o (swept x t.fuel (pushes_block x.parts.literals i) (p + 2 * i.pairs))) e ∙ t.same
+    -- the instruction at p has answered r
+    after : (r : Result (Unit {0}) Fault) → r ≡ unless (site_fault x (site p b i)) (tt {0}) → and_then r (λ _. left x t.fuel (pushes_block x.parts.literals i) (p + 2 * i.pairs)) ≡ all x
+    after r e = ap (λ (r : Result (Unit {0}) Fault). and_then r (λ _. left x t.fuel (pushes_block x.parts.literals i) (p + 2 * i.pairs))) e ∙ in_turn _ _ ∙ t.same
+
+    -- it breaks a rule
+    pub broken : (f : Fault) → Err f ≡ unless (site_fault x (site p b i)) (tt {0}) → Err f ≡ all x
+    broken f e = after (Err f) e
 
     -- it keeps them all
-    pub onward : None ≡ site_fault x (site p b i) → p < p + 2 * i.pairs → Sofar x (pushes_block x.parts.literals i) (p + 2 * i.pairs)
-    onward e h = record {
-      fuel = t.fuel;
-      enough = omega (arith, t.enough, h);
-      same = ap (λ (o : Option Fault). or_else o (swept x t.fuel (pushes_block x.parts.literals i) (p + 2 * i.pairs))) e ∙ t.same;
-    }
+    pub onward : Ok (tt {0}) ≡ unless (site_fault x (site p b i)) (tt {0}) → p < p + 2 * i.pairs → Sofar x (pushes_block x.parts.literals i) (p + 2 * i.pairs)
+    onward e h = record { fuel = t.fuel; enough = omega (arith, t.enough, h); same = after (Ok (tt {0})) e }
+
+-- what was read, where the error would have been mapped
+pub got : {T D : Type 0} (E : Type 0) (r : Result T D) (y : T) → MatchResult r (λ x. ◌≡◌ {A = Result T E} (Ok y) (Ok x)) (λ _. ⊥) → r ≡ Ok y
+got E (Ok x) y h = cc
+got E (Err e) y h = absurd h
+
+-- what was refused, where the error was mapped
+pub lost : {T D E : Type 0} {P : D → Type 0} (r : Result T D) (f : E) → MatchResult r (λ x. ◌≡◌ {A = Result T E} (Err f) (Ok x)) P → (e : D) × (r ≡ Err e) × P e
+lost (Ok x) f h = absurd cc
+lost (Err e) f h = (e, refl, h)

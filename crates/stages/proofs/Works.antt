@@ -66,31 +66,21 @@ pub record Sofar (code : List ℕ) (limit : ℕ) (R : Result (List ℕ) Fault) (
   pub same : runs code limit fuel (work hs ws n) ≡ R
   pub ready : Ready hs ws n
 
--- the run from the start
-abbrev pub whole : List ℕ → ℕ → List ℕ → List ℕ → ℕ → Result (List ℕ) Fault
-whole code limit hs ws n = runs code limit (length hs) (work hs ws n)
-
 zeroth : (ws : List ℕ) → 0 < length ws → get_or (set ws 0 0) 0 0 ≡ 0
 zeroth ws h = get_or-set_same ws 0 0 0 h
 
-pub start : (code : List ℕ) (limit : ℕ) (hs ws : List ℕ) → 0 < length hs → length hs ≡ length ws → Sofar code limit (whole code limit (set hs 0 0) (set ws 0 0) 1) (set hs 0 0) (set ws 0 0) 1
+-- place 0 waits with height 0
+pub start : (code : List ℕ) (limit : ℕ) (hs ws : List ℕ) → 0 < length hs → length hs ≡ length ws → Sofar code limit (examined code limit hs) (set hs 0 0) (set ws 0 0) 1
 start code limit hs ws h l = record {
-  fuel = length (set hs 0 0);
-  enough = omega (arith, length-set hs 0 0, blanks_first hs h);
-  same = refl;
+  fuel = length hs;
+  enough = omega (arith, blanks_first hs h);
+  same = let z = zeroth ws (omega arith) in λ i. runs code limit (length hs) (record { heights = set hs 0 0; waiting = z i ∷ [] });
   ready = record {
     room = omega (arith, length-set hs 0 0, blanks_first hs h);
     wide = omega (arith, length-set hs 0 0, length-set ws 0 0);
     inside = λ k b. let z : k ≡ 0 = omega arith in omega (arith, length-set hs 0 0, ap (λ (j : ℕ). get_or (set ws 0 0) j 0) z ∙ zeroth ws (omega arith));
   };
 }
-
--- it is the definition's
-pub whole_is : (code : List ℕ) (limit : ℕ) (hs ws : List ℕ) → 0 < length ws → whole code limit (set hs 0 0) (set ws 0 0) 1 ≡ examined code limit hs
-whole_is code limit hs ws h =
-    let n = length-set hs 0 0 in
-    let z = zeroth ws h in
-    λ i. runs code limit (n i) (record { heights = set hs 0 0; waiting = z i ∷ [] })
 
 -- the newest waiting place is taken
 pub record Taken (code : List ℕ) (limit : ℕ) (R : Result (List ℕ) Fault) (hs ws : List ℕ) (n p : ℕ) : Type 0 where
@@ -99,7 +89,6 @@ pub record Taken (code : List ℕ) (limit : ℕ) (R : Result (List ℕ) Fault) (
   pub same : and_then (examines (length code) limit p (get_or hs (p / 2) 0) (demand_of code p) (work hs ws n)) (runs code limit fuel) ≡ R
   pub ready : Ready hs ws n
   pub spare : n + blanks hs < length hs
-  pub here : p / 2 < length hs
 
 pub take : (code : List ℕ) (limit : ℕ) (R : Result (List ℕ) Fault) (hs ws : List ℕ) (n p : ℕ) → Sofar code limit R hs ws n → 0 < n → p ≡ get_or ws (n - 1) 0 → Taken code limit R hs ws (n - 1) p
 take code limit R hs ws n p s h e = by s.fuel s.enough s.same
@@ -118,7 +107,6 @@ take code limit R hs ws n p s h e = by s.fuel s.enough s.same
           ∙ q;
       ready = record { room = omega (arith, r.room); wide = r.wide; inside = λ k b. r.inside k (omega arith) };
       spare = omega (arith, r.room);
-      here = subst (λ (k : ℕ). k / 2 < length hs) (sym e) (r.inside (n - 1) (omega arith));
     }
 
 -- none waits
@@ -129,27 +117,39 @@ none code limit R hs ws n s z = by s.fuel s.same
     by zero q = q
     by (suc f) q = ap (λ (k : ℕ). runs code limit (suc f) (work hs ws k)) (sym z) ∙ q
 
+-- the visits of the turn at p, each successor reached at height a
+pub record Turned (code : List ℕ) (limit : ℕ) (R : Result (List ℕ) Fault) (p a : ℕ) (ss : List (Option ℕ)) (hs ws : List ℕ) (n : ℕ) : Type 0 where
+  pub fuel : ℕ
+  pub enough : n + blanks hs ≤ fuel
+  pub same : and_then (visits (length code) p a ss (work hs ws n)) (runs code limit fuel) ≡ R
+  pub ready : Ready hs ws n
+  pub spare : n + blanks hs < length hs
+
 module _ {code : List ℕ} {limit : ℕ} {R : Result (List ℕ) Fault} {hs ws : List ℕ} {n p : ℕ} (t : Taken code limit R hs ws n p) (d : Demand) (is : d ≡ demand_of code p) where
-  by_demand : and_then (examines (length code) limit p (get_or hs (p / 2) 0) d (work hs ws n)) (runs code limit t.fuel) ≡ R
-  by_demand = ap (λ (d : Demand). and_then (examines (length code) limit p (get_or hs (p / 2) 0) d (work hs ws n)) (runs code limit t.fuel)) is ∙ t.same
-
   tested : (x : Result Work Fault) → x ≡ examines (length code) limit p (get_or hs (p / 2) 0) d (work hs ws n) → and_then x (runs code limit t.fuel) ≡ R
-  tested x e = ap (λ (y : Result Work Fault). and_then y (runs code limit t.fuel)) e ∙ by_demand
+  tested x e =
+      ap (λ (y : Result Work Fault). and_then y (runs code limit t.fuel)) e
+      ∙ ap (λ (d : Demand). and_then (examines (length code) limit p (get_or hs (p / 2) 0) d (work hs ws n)) (runs code limit t.fuel)) is ∙ t.same
 
-  pub low : get_or hs (p / 2) 0 < d.takes → Err (fault HeightLow p) ≡ R
-  low h = tested (Err (fault HeightLow p)) (sym (cond-true (ltb (get_or hs (p / 2) 0) d.takes) _ _ (lt-ltb _ _ h)))
+  pub low : get_or hs (p / 2) 0 < d.effect.takes → Err (fault HeightLow p) ≡ R
+  low h = tested (Err (fault HeightLow p)) (sym (cond-true (ltb (get_or hs (p / 2) 0) d.effect.takes) _ _ (lt-ltb _ _ h)))
 
-  pub high : d.takes ≤ get_or hs (p / 2) 0 → limit < height_after d (get_or hs (p / 2) 0) → Err (fault HeightOver p) ≡ R
-  high g h =
-      tested (Err (fault HeightOver p))
-      (sym (cond-false (ltb (get_or hs (p / 2) 0) d.takes) _ _ (le-ltb _ _ g) ∙ cond-true (ltb limit (height_after d (get_or hs (p / 2) 0))) _ _ (lt-ltb _ _ h)))
+  module _ (g : d.effect.takes ≤ get_or hs (p / 2) 0) where
+    pub high : limit < height_after d (get_or hs (p / 2) 0) → Err (fault HeightOver p) ≡ R
+    high h =
+        tested (Err (fault HeightOver p))
+        (sym (cond-false (ltb (get_or hs (p / 2) 0) d.effect.takes) _ _ (le-ltb _ _ g) ∙ cond-true (ltb limit (height_after d (get_or hs (p / 2) 0))) _ _ (lt-ltb _ _ h)))
 
-  pub visiting : (a : ℕ) → d.takes ≤ get_or hs (p / 2) 0 → a ≡ height_after d (get_or hs (p / 2) 0) → a ≤ limit
-      → and_then (visits (length code) p a d.to (work hs ws n)) (runs code limit t.fuel) ≡ R
-  visiting a g e h =
-      tested (visits (length code) p a d.to (work hs ws n))
-      (ap (λ (k : ℕ). visits (length code) p k d.to (work hs ws n)) e
-      ∙ sym (cond-false (ltb (get_or hs (p / 2) 0) d.takes) _ _ (le-ltb _ _ g) ∙ cond-false (ltb limit (height_after d (get_or hs (p / 2) 0))) _ _ (le-ltb _ _ (subst (λ (k : ℕ). k ≤ limit) e h))))
+    pub visiting : height_after d (get_or hs (p / 2) 0) ≤ limit → Turned code limit R p (height_after d (get_or hs (p / 2) 0)) d.to hs ws n
+    visiting h = record {
+      fuel = t.fuel;
+      enough = t.enough;
+      same =
+          tested (visits (length code) p (height_after d (get_or hs (p / 2) 0)) d.to (work hs ws n))
+          (sym (cond-false (ltb (get_or hs (p / 2) 0) d.effect.takes) _ _ (le-ltb _ _ g) ∙ cond-false (ltb limit (height_after d (get_or hs (p / 2) 0))) _ _ (le-ltb _ _ h)));
+      ready = t.ready;
+      spare = t.spare;
+    }
 
 -- the visits from the i-th successor on are what is left of them all
 pub record Visits (l p a : ℕ) (ss : List (Option ℕ)) (i : ℕ) (w₀ : Work) (c₀ : ℕ) (hs ws : List ℕ) (n : ℕ) : Type 0 where
@@ -222,21 +222,16 @@ module _ {l p a : ℕ} {ss : List (Option ℕ)} {i : ℕ} {w₀ : Work} {c₀ : 
           };
         }
 
-module _ {code : List ℕ} {limit : ℕ} {R : Result (List ℕ) Fault} {hs₁ ws₁ : List ℕ} {n₁ p : ℕ} (t : Taken code limit R hs₁ ws₁ n₁ p) where
-  -- before the first visit
-  pub begin : (a : ℕ) (ss : List (Option ℕ)) → Visits (length code) p a ss 0 (work hs₁ ws₁ n₁) (n₁ + blanks hs₁) hs₁ ws₁ n₁
-  begin a ss = record { same = refl; count = omega arith; ready = t.ready; spare = t.spare }
+module _ {code : List ℕ} {limit : ℕ} {R : Result (List ℕ) Fault} {p a : ℕ} {ss : List (Option ℕ)} {hs₁ ws₁ : List ℕ} {n₁ : ℕ} (t : Turned code limit R p a ss hs₁ ws₁ n₁) where
+  -- the visits are done: the run goes on
+  pub again : {i : ℕ} {hs ws : List ℕ} {n : ℕ} → Visits (length code) p a ss i (work hs₁ ws₁ n₁) (n₁ + blanks hs₁) hs ws n → length ss ≤ i → Sofar code limit R hs ws n
+  again v h = record {
+    fuel = t.fuel;
+    enough = omega (arith, v.count, t.enough);
+    same = ap (λ (x : Result Work Fault). and_then x (runs code limit t.fuel)) (ended v h) ∙ t.same;
+    ready = v.ready;
+  }
 
-  module _ (a : ℕ) (ss : List (Option ℕ)) (q : and_then (visits (length code) p a ss (work hs₁ ws₁ n₁)) (runs code limit t.fuel) ≡ R) where
-    -- the visits are done: the run goes on
-    pub again : {i : ℕ} {hs ws : List ℕ} {n : ℕ} → Visits (length code) p a ss i (work hs₁ ws₁ n₁) (n₁ + blanks hs₁) hs ws n → length ss ≤ i → Sofar code limit R hs ws n
-    again v h = record {
-      fuel = t.fuel;
-      enough = omega (arith, v.count, t.enough);
-      same = ap (λ (x : Result Work Fault). and_then x (runs code limit t.fuel)) (ended v h) ∙ q;
-      ready = v.ready;
-    }
-
-    -- a fault among the visits
-    pub found : (f : Fault) → Err f ≡ visits (length code) p a ss (work hs₁ ws₁ n₁) → Err f ≡ R
-    found f e = ap (λ (x : Result Work Fault). and_then x (runs code limit t.fuel)) e ∙ q
+  -- a fault among the visits
+  pub found : (f : Fault) → Err f ≡ visits (length code) p a ss (work hs₁ ws₁ n₁) → Err f ≡ R
+  found f e = ap (λ (x : Result Work Fault). and_then x (runs code limit t.fuel)) e ∙ t.same

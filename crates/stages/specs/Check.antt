@@ -27,6 +27,10 @@ admission_fault m p h w = or_else (first_wrong p.literals p.layout.literals (len
 abbrev pub admitted : Marks → List ℕ → ℕ → ℕ → Result Parts Fault
 admitted m b h w = and_then (parts_of b) (λ p. unless (admission_fault m p h w) p)
 
+-- the same stages: what the rules look at from then on
+abbrev pub case_of : Marks → Bool → List ℕ → ℕ → ℕ → Result Setting Fault
+case_of m t b h w = and_then (admitted m b h w) (λ p. Ok (setting p m t))
+
 -- the stages encoding and heights: the height bytes, or the first fault
 abbrev pub judged : Setting → Result (List ℕ) Fault
 judged x =

@@ -1,5 +1,5 @@
 -- The encoding rules, at one instruction and at all in turn.
-use Rattle.std.specs.Prelude.{ℕ, Bool, true, false, not, ◌&&◌, List, [], ◌∷◌, length, is_some, Some, None, Ok, Err, Option, Result, ◌==◌}
+use Rattle.std.specs.Prelude.{ℕ, Bool, true, false, not, ◌&&◌, List, [], ◌∷◌, length, is_some, Some, None, Option, ◌==◌}
 use Rattle.std.specs.Option.{unwrap_or}
 use Rattle.std.specs.List.{slice_get}
 use Rattle.values.specs.Order.{Test, test, first}
@@ -69,11 +69,6 @@ asks_self Line = false
 -- whether cell i is there and trusted
 abbrev pub trusted_in : List Bool → ℕ → Bool
 trusted_in ms i = unwrap_or (slice_get ms i) false
-
--- the same, by what a host says of its mark
-abbrev pub told_trusted : Result Bool Fault → Bool
-told_trusted (Ok t) = t
-told_trusted (Err f) = false
 
 -- whether a literal names a trusted binding
 abbrev pub names_trusted : List Bool → Option Literal → Bool

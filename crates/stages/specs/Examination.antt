@@ -1,24 +1,23 @@
 -- The examination of heights: the newest waiting place first, its landing place before its following place.
-use Rattle.std.specs.Prelude.{ℕ, zero, suc, ◌+◌, ◌-◌, ◌*◌, ◌/◌, max, cond, List, [], ◌∷◌, length, Some, None, Ok, Err, Option, Result, ◌==◌, nat_le, nat_lt, slice_index, slice_set}
+use Rattle.std.specs.Prelude.{ℕ, zero, suc, ◌+◌, ◌*◌, ◌/◌, max, cond, List, [], ◌∷◌, length, Some, None, Ok, Err, Option, Result, ◌==◌, nat_le, nat_lt, slice_index, slice_set}
 use Rattle.values.specs.Faults.{fault}
 use Rattle.values.specs.Order.{and_then}
 use Rattle.values.specs.declared.faults.Fault.{Fault}
 use Rattle.values.specs.declared.faults.Rule.TheVariants.{HeightLow, HeightOver, CodeLeft, HeightsDiffer}
 use Rattle.parcels.specs.Reading.{Reading, read_at}
-use Rattle.parcels.specs.Opcodes.{operation_of, effect_of, flow_of, successors_of}
+use Rattle.parcels.specs.Opcodes.{operation_of, effect_of, after, flow_of, successors_of}
 use Rattle.parcels.specs.declared.opcodes.Operation.{Operation}
 use Rattle.parcels.specs.declared.reading.Instruction.{Instruction}
 use Rattle.stages.specs.declared.heights.Demand.{Demand}
 
 -- what an instruction that cannot be read asks; the encoding stage leaves none
 abbrev pub nothing : Demand
-nothing = record { takes = 0; leaves = 0; to = None ∷ None ∷ [] }
+nothing = record { effect = record { takes = 0; leaves = 0 }; to = None ∷ None ∷ [] }
 
 -- what an instruction asks: the cells that it takes and leaves, and its successors
 abbrev pub demanded : List ℕ → ℕ → Instruction → Option Operation → Demand
 demanded code next i None = nothing
-demanded code next i (Some o) =
-    record { takes = (effect_of o i).takes; leaves = (effect_of o i).leaves; to = successors_of code (flow_of o) next i.argument }
+demanded code next i (Some o) = record { effect = effect_of o i; to = successors_of code (flow_of o) next i.argument }
 
 -- what is read at p asks
 abbrev pub demand_read : List ℕ → ℕ → Reading → Demand
@@ -31,7 +30,7 @@ demand_of code p = demand_read code p (read_at code p)
 
 -- the height after what is asked at height h
 abbrev pub height_after : Demand → ℕ → ℕ
-height_after d h = h - d.takes + d.leaves
+height_after d = after d.effect
 
 -- the height byte of every pair, 255 where there is no height yet, and the waiting places, the newest first
 pub record Work : Type 0 where
@@ -58,7 +57,7 @@ visits l p a (Some s ∷ ss) w =
 -- place p is examined at height h by what its instruction asks
 abbrev pub examines : ℕ → ℕ → ℕ → ℕ → Demand → Work → Result Work Fault
 examines l limit p h d w =
-    cond (nat_lt h d.takes) (Err (fault HeightLow p))
+    cond (nat_lt h d.effect.takes) (Err (fault HeightLow p))
     (cond (nat_lt limit (height_after d h)) (Err (fault HeightOver p))
     (visits l p (height_after d h) d.to w))
 
@@ -81,9 +80,9 @@ abbrev pub examined : List ℕ → ℕ → List ℕ → Result (List ℕ) Fault
 examined code limit hs = runs code limit (length hs) (record { heights = slice_set hs 0 0; waiting = 0 ∷ [] })
 
 -- how an examination ends: with the heights, or with a fault
-abbrev pub outcome : Option Fault → List ℕ → Result (List ℕ) Fault
-outcome (Some f) hs = Err f
-outcome None hs = Ok hs
+abbrev pub outcome : Result (Unit {0}) Fault → List ℕ → Result (List ℕ) Fault
+outcome (Err f) hs = Err f
+outcome (Ok u) hs = Ok hs
 
 -- a height byte as a height: 255 is none
 abbrev pub height_of : ℕ → ℕ

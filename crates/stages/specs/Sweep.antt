@@ -3,25 +3,18 @@ use Rattle.std.specs.Prelude.{ℕ, zero, suc, ◌+◌, ◌-◌, ◌*◌, ◌%◌
 use Rattle.values.specs.Faults.{fault}
 use Rattle.values.specs.Order.{Test, test, first, or_else}
 use Rattle.values.specs.declared.faults.Fault.{Fault}
-use Rattle.values.specs.declared.faults.Rule.{Rule}
-use Rattle.values.specs.declared.faults.Rule.TheVariants.{CodeCut, ExtensionFourth}
+use Rattle.values.specs.declared.faults.Rule.TheVariants.{CodeCut}
 use Rattle.parcels.specs.Literals.{literal}
 use Rattle.parcels.specs.Reading.{Reading, read_at}
+pub use Rattle.parcels.specs.Reading.{unreadable_rule}
 use Rattle.parcels.specs.Opcodes.{operation_of}
 use Rattle.parcels.specs.declared.reading.Instruction.{Instruction}
-use Rattle.parcels.specs.declared.reading.Unreadable.{Unreadable}
-use Rattle.parcels.specs.declared.reading.Unreadable.TheVariants.{FourthExtension, Cut}
 use Rattle.parcels.specs.declared.opcodes.Source.TheVariants as source
 use Rattle.parcels.specs.declared.opcodes.Operation.{Operation}
 use Rattle.parcels.specs.declared.opcodes.Operation.TheVariants.{Send, SendSelector, Push, Store, Jump, Branch, Pop, Duplicate, Close, End, Line}
 use Rattle.stages.specs.Operands.{block}
 use Rattle.stages.specs.Encoding.{Setting, site_fault}
 use Rattle.stages.specs.declared.encoding.Site.{Site}
-
--- the rule that an unreadable instruction breaks
-abbrev pub unreadable_rule : Unreadable → Rule
-unreadable_rule FourthExtension = ExtensionFourth
-unreadable_rule Cut = CodeCut
 
 -- whether an operation pushes a literal
 abbrev pub pushes_literal : Option Operation → Bool

@@ -1,87 +1,58 @@
 // The encoding stage: the instructions in turn.
-ghost use Rattle.std.specs.Prelude.{◌≡◌, ◌%◌, ◌<◌, false, length, IfNone};
-ghost use Rattle.hosts.specs.Meaning.{marks_of};
-ghost use Rattle.parcels.specs.Parts.{parts};
-ghost use Rattle.stages.specs.Encoding.{setting};
-ghost use Rattle.stages.specs.Sweep.{unreadable_rule, pushes_literal, pushes_block, swept, encoding_fault};
+ghost use Rattle.std.specs.Prelude.{◌≡◌, ◌%◌, ◌<◌, false, length, OnOk};
+ghost use Rattle.stages.specs.Cases.{setting_of};
+ghost use Rattle.stages.specs.Sweep.{pushes_block, swept, encoding_fault};
+ghost use Rattle.values.specs.Order.{unless};
 
-use crate::encoding::{Site, is_block, site_fault};
+use crate::cases::Case;
+use crate::encoding::{Site, is_block};
 use hosts::Host;
-use parcels::{Instruction, Operation, Parcel, Reader, Source, Unreadable, literal_at};
+use parcels::{Instruction, Operation, Reader, Source, literal_at};
 use values::{Fault, Rule};
-
-// The rule that an unreadable instruction breaks.
-fn rule_of(unreadable: Unreadable) -> Rule
-    ensures { result ≡ unreadable_rule unreadable }
-{
-    match unreadable {
-        Unreadable::FourthExtension => Rule::ExtensionFourth,
-        Unreadable::Cut => Rule::CodeCut,
-    }
-}
-
-// Whether an operation pushes a literal.
-fn pushes_literal(operation: Option<Operation>) -> bool
-    ensures { result ≡ pushes_literal operation }
-{
-    matches!(operation, Some(Operation::Push(Source::Literal)))
-}
 
 // Whether an instruction pushes a block.
 fn pushes_block(literals: &[u8], instruction: Instruction) -> bool
     ensures { result ≡ pushes_block literals.now instruction }
 {
-    pushes_literal(Operation::of(instruction.opcode))
-        && is_block(literal_at(literals, instruction.argument))
+    matches!(
+        Operation::try_from(instruction.opcode),
+        Ok(Operation::Push(Source::Literal))
+    ) && is_block(literal_at(literals, instruction.argument))
 }
 
-// The first fault of the instructions in turn.
-fn sweep<H: Host>(host: &H, parcel: Parcel, trusted: bool) -> Option<Fault>
-    ensures { result ≡ swept (setting (parts parcel.entry) (marks_of (H.means host.now)) trusted) (length parcel.entry.code.now) false 0 }
-{
-    let mut reader = Reader::at(parcel.code, 0);
-    let mut after_block = false;
-    while reader.place < parcel.code.len() {
-        let place = reader.place;
-        match reader.advance() {
-            Err(e) => return Some(Fault {
-                rule: rule_of(e),
+impl<H: Host> Case<'_, H> {
+    // Checks the rules of the instructions in turn. The reader keeps the place; an iterator would hide it, and a fault carries it.
+    fn sweep(&self) -> Result<(), Fault>
+        ensures { result ≡ unless (swept (setting_of H.means self.now) (length self.now.parcel.code.now) false 0) tt }
+    {
+        let mut reader = Reader::at(self.parcel.code, 0);
+        let mut after_block = false;
+        while reader.place < self.parcel.code.len() {
+            let place = reader.place;
+            let (instruction, _) = reader.advance().map_err(|e| Rule::from(e).at(place))?;
+            self.check_site(Site {
                 place,
-            }),
-            Ok((instruction, _)) => {
-                let site = Site {
-                    place,
-                    instruction,
-                    next: reader.place,
-                    after_block,
-                };
-                if let Some(fault) = site_fault(host, parcel, trusted, site) {
-                    return Some(fault);
-                }
-                after_block = pushes_block(parcel.literals, instruction);
-            }
+                instruction,
+                next: reader.place,
+                after_block,
+            })?;
+            after_block = pushes_block(self.parcel.literals, instruction);
         }
+        Ok(())
     }
-    None
-}
 
-// The first fault of the encoding stage.
-pub fn encoding_fault<H: Host>(host: &H, parcel: Parcel, trusted: bool) -> Option<Fault>
-    ensures whole { IfNone result ((0 < length parcel.entry.code.now) × (length parcel.entry.code.now % 2 ≡ 0)) }
-    ensures answer { result ≡ encoding_fault (setting (parts parcel.entry) (marks_of (H.means host.now)) trusted) }
-{
-    let length = parcel.code.len();
-    if length == 0 {
-        return Some(Fault {
-            rule: Rule::CodeCut,
-            place: 0,
-        });
+    // Checks the rules of the encoding stage, in order.
+    pub fn check_encoding(&self) -> Result<(), Fault>
+        ensures whole { OnOk result ((0 < length self.now.parcel.code.now) × (length self.now.parcel.code.now % 2 ≡ 0)) }
+        ensures answer { result ≡ unless (encoding_fault (setting_of H.means self.now)) tt }
+    {
+        let length = self.parcel.code.len();
+        if length == 0 {
+            return Err(Rule::CodeCut.at(0));
+        }
+        if length % 2 == 1 {
+            return Err(Rule::CodeCut.at(length - 1));
+        }
+        self.sweep()
     }
-    if length % 2 == 1 {
-        return Some(Fault {
-            rule: Rule::CodeCut,
-            place: length - 1,
-        });
-    }
-    sweep(host, parcel, trusted)
 }

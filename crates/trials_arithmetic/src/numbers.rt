@@ -1,6 +1,7 @@
 // The numbers that come out, and the edges of the range.
-use crate::worlds::{between, int, over_file};
+use crate::worlds::between;
 use hosts::Host;
+use samples::{int, over_file};
 use std::process::Abort;
 use std::test::Fail;
 use values::Value;
@@ -25,11 +26,8 @@ fn all_go_below(rt: &impl Abort, host: &mut impl Host, rows: &[(i32, u32, i32)])
 
 // The answers to the six comparisons of a and b, from `<` to `~=`.
 fn compare_as(rt: &impl Abort, host: &mut impl Host, a: i32, b: i32, answers: &[bool]) {
-    let mut selector: u32 = 2;
-    for yes in answers {
-        let answer = if *yes { Value::True } else { Value::False };
-        assert_eq!(rt; between(host, a, selector, b), Some(answer));
-        selector = selector.wrapping_add(1);
+    for (selector, yes) in (2..8u32).zip(answers) {
+        assert_eq!(rt; between(host, a, selector, b), Some(Value::from(*yes)));
     }
 }
 

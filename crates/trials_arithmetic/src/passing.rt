@@ -1,7 +1,8 @@
 // What goes below, and what is below.
-use crate::worlds::{REFUSED, WEEK, between, int, over_file, over_refused};
+use crate::worlds::between;
 use arithmetic::Arithmetic;
-use hosts::{Host, Message};
+use hosts::{Host, Row};
+use samples::{WEEK, int, over_bytes, over_file, send_to};
 use std::process::Abort;
 use std::test::Fail;
 use values::{Fault, Rule, Value};
@@ -11,22 +12,17 @@ const WRITTEN: [u8; 26] = [
     0, 1, 0, 2, 0, 0, 0, 42, 0, 3, 0, 0, 0, 2, 1, 0, 0, 0, 0, 0, 0, 1, 0, 0, 0, 0,
 ];
 
+// Bytes that are no week file.
+const REFUSED: [u8; 3] = [1, 2, 3];
+
 // The fault of a cell that is not there.
 fn missing(i: usize) -> Fault {
-    Fault {
-        rule: Rule::CellMissing,
-        place: i,
-    }
+    Rule::CellMissing.at(i)
 }
 
 // What comes of a message without arguments.
 fn asked(host: &mut impl Host, receiver: Value, selector: u32) -> Option<Value> {
-    host.send(&Message {
-        is_super: false,
-        selector,
-        receiver,
-        arguments: &[],
-    })
+    send_to(host, false, selector, receiver, &[])
 }
 
 // What comes of `+`.
@@ -36,12 +32,7 @@ fn plus(
     receiver: Value,
     arguments: &[Value],
 ) -> Option<Value> {
-    host.send(&Message {
-        is_super,
-        selector: 0,
-        receiver,
-        arguments,
-    })
+    send_to(host, is_super, 0, receiver, arguments)
 }
 
 // The messages of a week file are answered, and others are not.
@@ -67,25 +58,28 @@ fn try_sums(rt: &impl Abort, host: &mut impl Host) {
 // The questions are answered by the file.
 fn try_questions(rt: &impl Abort, host: &impl Host) {
     assert_eq!(rt; host.receiver(), Value::Object(42));
-    assert_eq!(rt; host.variable_count(), 1);
-    assert_eq!(rt; host.binding_count(), 2);
-    assert_eq!(rt; host.variable_trusted(0), Ok(false));
-    assert_eq!(rt; host.binding_trusted(0), Ok(true));
+    assert_eq!(rt; host.count(Row::Variables), 1);
+    assert_eq!(rt; host.count(Row::Bindings), 2);
+    assert_eq!(rt; host.trusted(Row::Variables, 0), Ok(false));
+    assert_eq!(rt; host.trusted(Row::Bindings, 0), Ok(true));
 }
 
 // The reads too, with the fault of a cell that is not there.
 fn try_reads(rt: &impl Abort, host: &impl Host) {
-    assert_eq!(rt; host.variable(0), Ok(int(-7)));
-    assert_eq!(rt; host.binding(0), Ok(Value::Object(100)));
-    assert_eq!(rt; host.variable(1), Err(missing(1)));
-    assert_eq!(rt; host.binding(2), Err(missing(2)));
+    assert_eq!(rt; host.value(Row::Variables, 0), Ok(int(-7)));
+    assert_eq!(rt; host.value(Row::Bindings, 0), Ok(Value::Object(100)));
+    assert_eq!(rt; host.value(Row::Variables, 1), Err(missing(1)));
+    assert_eq!(rt; host.value(Row::Bindings, 2), Err(missing(2)));
 }
 
 // Writes 2 into variable 0 and nil into binding 0.
 fn try_writes(rt: &impl Abort, host: &mut impl Host) {
-    assert_eq!(rt; host.set_variable(0, int(2)), Ok(()));
-    assert_eq!(rt; host.set_binding(0, Value::Nil), Ok(()));
-    assert_eq!(rt; host.set_binding(2, Value::Nil), Err(missing(2)));
+    assert_eq!(rt; host.set_value(Row::Variables, 0, int(2)), Ok(()));
+    assert_eq!(rt; host.set_value(Row::Bindings, 0, Value::Nil), Ok(()));
+    assert_eq!(rt;
+        host.set_value(Row::Bindings, 2, Value::Nil),
+        Err(missing(2))
+    );
 }
 
 #[test]
@@ -130,12 +124,12 @@ fn a_layer_over_a_layer(rt: HostRuntime) -> Result<(), Fail> {
 
 #[test]
 fn a_layer_over_a_refused_file(rt: HostRuntime) -> Result<(), Fail> {
-    let mut host = over_refused(rt.alloc())?;
+    let mut host = over_bytes(rt.alloc(), &REFUSED)?;
     try_messages(&rt, &mut host);
     try_sums(&rt, &mut host);
     assert_eq!(rt; host.receiver(), Value::Nil);
-    assert_eq!(rt; host.variable_count(), 0);
-    assert_eq!(rt; host.set_variable(0, int(2)), Err(missing(0)));
+    assert_eq!(rt; host.count(Row::Variables), 0);
+    assert_eq!(rt; host.set_value(Row::Variables, 0, int(2)), Err(missing(0)));
     let bytes = host.into_below().into_bytes();
     assert!(rt; bytes.as_slice() == REFUSED.as_slice());
     Ok(())

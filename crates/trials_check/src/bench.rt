@@ -1,22 +1,14 @@
 // A week file to check parcels over, and what a check finds.
-use crate::drafts::{Draft, Entry, FOUR_SLOTS, parcel_bytes};
+use crate::drafts::{Draft, with_literals};
 use checker::check;
+use samples::{Entry, in_numbers};
 use std::alloc::{AllocError, Global};
 use std::process::Abort;
 use std::test::*;
-use values::Fault;
 use week_file::WeekFile;
 
 // The greatest height, or the number and the place of a fault.
 pub type Found = Result<u8, (u8, usize)>;
-
-// What a check found, in numbers.
-pub fn in_numbers(answer: Result<u8, Fault>) -> Found {
-    match answer {
-        Ok(height) => Ok(height),
-        Err(fault) => Err((fault.number(), fault.place())),
-    }
-}
 
 // The host is over a week file of four variables and two bindings, all nil, with receiver object 0; variable 3 and binding 1 are trusted.
 #[derive(Drop)]
@@ -76,7 +68,8 @@ impl Bench {
         self.judged(rt, cases, true)
     }
 
-    // Codes as untrusted methods with 4 slots and these literals.
+    // Codes as untrusted methods with 4 slots and these literals. The loop is that over drafts but for what a row is made into; a list of drafts would
+    // have to be built on the heap.
     pub fn codes_with(
         &self,
         rt: &impl Abort,
@@ -85,7 +78,7 @@ impl Bench {
     ) -> Result<(), Fail> {
         for (k, case) in cases.iter().enumerate() {
             let (code, want) = *case;
-            let bytes = parcel_bytes(self.heap, 0, FOUR_SLOTS, literals, code)?;
+            let bytes = with_literals(literals, code).bytes(self.heap)?;
             assert_eq!(rt; self.finds(&bytes, false), want, "case {k}");
         }
         Ok(())

@@ -1,8 +1,6 @@
 // Parcels in parts, and their bytes.
+use samples::{Entry, parcel_bytes};
 use std::alloc::{AllocError, Global};
-
-// The six bytes of a literal.
-pub type Entry = [u8; 6];
 
 // Literals of several kinds.
 pub const NIL: Entry = [0, 0, 0, 0, 0, 0];
@@ -27,7 +25,7 @@ pub const FOUR_SLOTS: u32 = 32;
 // The flags of a block with 4 slots, no arguments or locals, and chain use 0.
 pub const BLOCK_SLOTS: u32 = 16384;
 
-// A parcel in parts.
+// A parcel in parts. Its kind is the byte of the format.
 #[derive(Clone, Copy)]
 pub struct Draft<'a> {
     pub kind: u8,
@@ -49,56 +47,31 @@ pub fn method(code: &[u8]) -> Draft<'_> {
 // The same with literals.
 pub fn with_literals<'a>(literals: &'a [Entry], code: &'a [u8]) -> Draft<'a> {
     Draft {
-        kind: 0,
-        flags: FOUR_SLOTS,
         literals,
-        code,
+        ..method(code)
     }
 }
 
 // The same with other flags.
 pub fn with_flags(flags: u32, code: &[u8]) -> Draft<'_> {
     Draft {
-        kind: 0,
         flags,
-        literals: &[],
-        code,
+        ..method(code)
+    }
+}
+
+// A block with these flags.
+pub fn block_with(flags: u32, code: &[u8]) -> Draft<'_> {
+    Draft {
+        kind: 1,
+        flags,
+        ..method(code)
     }
 }
 
 // A block with 4 slots and a chain use.
 pub fn block(chain: u8, code: &[u8]) -> Draft<'_> {
-    Draft {
-        kind: 1,
-        flags: BLOCK_SLOTS + chain as u32,
-        literals: &[],
-        code,
-    }
-}
-
-// The low two bytes of a number.
-fn two_bytes(n: usize) -> [u8; 2] {
-    [(n / 256 % 256) as u8, (n % 256) as u8]
-}
-
-// The bytes of a parcel of a kind, with flags, literals and code.
-pub fn parcel_bytes(
-    heap: Global,
-    kind: u8,
-    flags: u32,
-    literals: &[Entry],
-    code: &[u8],
-) -> Result<Vec<u8>, AllocError> {
-    let mut bytes = Vec::new(heap);
-    bytes.extend_from_slice(&[0, kind])?;
-    bytes.extend_from_slice(&two_bytes(literals.len()))?;
-    bytes.extend_from_slice(&flags.to_be_bytes())?;
-    bytes.extend_from_slice(&two_bytes(code.len()))?;
-    for literal in literals {
-        bytes.extend_from_slice(literal)?;
-    }
-    bytes.extend_from_slice(code)?;
-    Ok(bytes)
+    block_with(BLOCK_SLOTS + chain as u32, code)
 }
 
 impl Draft<'_> {
@@ -108,7 +81,7 @@ impl Draft<'_> {
     }
 }
 
-// As many pairs of an opcode with argument byte 0, and then more code.
+// So many pairs of an opcode with argument byte 0, and then more code.
 pub fn repeated(
     heap: Global,
     opcode: u8,

@@ -1,6 +1,6 @@
 // The stages header and flags.
 use crate::bench::Bench;
-use crate::drafts::{BLOCK_SLOTS, Draft, NIL, repeated, with_flags, with_literals};
+use crate::drafts::{BLOCK_SLOTS, NIL, block_with, repeated, with_flags, with_literals};
 use std::test::*;
 
 // A code that is accepted with height 0.
@@ -67,16 +67,6 @@ fn method_flags(rt: HostRuntime) -> Result<(), Fail> {
             (with_flags(1 << 11, &TURNING), Err((7, 4))),
         ],
     )
-}
-
-// A block with these flags.
-fn block_with(flags: u32, code: &[u8]) -> Draft<'_> {
-    Draft {
-        kind: 1,
-        flags,
-        literals: &[],
-        code,
-    }
 }
 
 #[test]

@@ -1,7 +1,8 @@
 // What the two lists hold after a check.
-use crate::bench::{Bench, Found, in_numbers};
+use crate::bench::{Bench, Found};
 use crate::drafts::{Draft, block, method, with_flags};
 use checker::check;
+use samples::in_numbers;
 use std::process::Abort;
 use std::test::*;
 

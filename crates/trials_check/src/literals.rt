@@ -1,8 +1,9 @@
 // The stage literals.
 use crate::bench::{Bench, Found};
 use crate::drafts::{
-    BINDING_0, BINDING_1, BINDING_2, BLOCK, Entry, KEYWORD, NIL, OBJECT, UNARY, with_literals,
+    BINDING_0, BINDING_1, BINDING_2, BLOCK, KEYWORD, NIL, OBJECT, UNARY, with_literals,
 };
+use samples::Entry;
 use std::process::Abort;
 use std::test::*;
 

@@ -1,7 +1,8 @@
 // Parcels that break two rules: the earlier one is answered.
-use crate::bench::{Bench, in_numbers};
+use crate::bench::Bench;
 use crate::drafts::{BINDING_0, BINDING_2, BLOCK_SLOTS, Draft, block, with_literals};
 use checker::check;
+use samples::{Entry, in_numbers};
 use std::test::*;
 
 #[test]
@@ -15,12 +16,11 @@ fn header_rows(rt: HostRuntime) -> Result<(), Fail> {
 }
 
 // A draft with literals, of a kind and with flags.
-fn marked(kind: u8, flags: u32, literals: &[[u8; 6]]) -> Draft<'_> {
+fn marked(kind: u8, flags: u32, literals: &[Entry]) -> Draft<'_> {
     Draft {
         kind,
         flags,
-        literals,
-        code: &[40, 2],
+        ..with_literals(literals, &[40, 2])
     }
 }
 
@@ -46,10 +46,10 @@ fn flags_and_literals(rt: HostRuntime) -> Result<(), Fail> {
 // A draft over lists without entries.
 fn listless(bench: &Bench, draft: Draft) -> Result<(u8, usize), Fail> {
     let bytes = draft.bytes(bench.heap)?;
-    match in_numbers(check(&bench.host, &bytes, false, &mut [], &mut [])) {
-        Err(fault) => Ok(fault),
-        Ok(_) => Err(Fail::new("accepted")),
-    }
+    let Err(fault) = in_numbers(check(&bench.host, &bytes, false, &mut [], &mut [])) else {
+        return Err(Fail::new("accepted"));
+    };
+    Ok(fault)
 }
 
 #[test]

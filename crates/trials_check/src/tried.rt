@@ -1,7 +1,8 @@
 // Small methods over the week file, by the check and by the listing.
 use crate::bench::{Bench, Found};
 use crate::drafts::method;
-use listing::{Verdict, list};
+use listing::list;
+use samples::in_numbers;
 use std::test::*;
 
 // Every code and what is found of it.
@@ -33,11 +34,8 @@ fn by_the_listing(rt: HostRuntime) -> Result<(), Fail> {
     for (k, case) in CASES.iter().enumerate() {
         let (code, want) = *case;
         let bytes = method(code).bytes(rt.alloc())?;
-        let listed = match list(rt.alloc(), &bytes)? {
-            Verdict::Accepted(height) => Ok(height),
-            Verdict::Refused(fault) => Err((fault.number(), fault.place())),
-        };
-        assert_eq!(rt; listed, want, "case {k}");
+        let verdict = list(rt.alloc(), &bytes)?.0;
+        assert_eq!(rt; in_numbers(verdict), want, "case {k}");
     }
     Ok(())
 }

@@ -1,9 +1,9 @@
-// What each class of instructions does.
-use crate::worlds::{BLOCK, Entry, comes_to, int, over_file, parcel_of, returns, state_after};
-use hosts::Host;
+// What each class of instructions does. Each row is a call of its own, so that what fails is told by its line.
+use crate::worlds::{block_of, comes_to, method_of, method_with, returns};
+use hosts::{Host, Row};
 use parcels::Ending;
+use samples::{Entry, int, over_file};
 use scripts::{State, Stop};
-use std::process::Abort;
 use std::test::Fail;
 use values::Value;
 
@@ -19,17 +19,9 @@ const BLOCK_9: Entry = [0, 5, 0, 0, 0, 9];
 #[test]
 fn sends(rt: HostRuntime) -> Result<(), Fail> {
     let mut host = over_file(rt.alloc())?;
+    returns(&rt, &mut host, &[], &[44, 7, 44, 2, 1, 0, 51, 0], int(5))?;
     returns(
         &rt,
-        rt.alloc(),
-        &mut host,
-        &[],
-        &[44, 7, 44, 2, 1, 0, 51, 0],
-        int(5),
-    )?;
-    returns(
-        &rt,
-        rt.alloc(),
         &mut host,
         &[MINUS],
         &[44, 7, 44, 2, 28, 1, 51, 0],
@@ -41,33 +33,21 @@ fn sends(rt: HostRuntime) -> Result<(), Fail> {
 fn messages_that_nobody_understands(rt: HostRuntime) -> Result<(), Fail> {
     let mut host = over_file(rt.alloc())?;
     let size = State::Stopped(Stop::NotUnderstood { selector: 18 });
-    comes_to(
-        &rt,
-        rt.alloc(),
-        &mut host,
-        &[],
-        &[44, 5, 18, 0, 51, 0],
-        size,
-    )?;
+    let bytes = method_of(rt.alloc(), &[44, 5, 18, 0, 51, 0])?;
+    comes_to(&rt, &mut host, &bytes, &[int(9)], size);
     let minus = State::Stopped(Stop::NotUnderstood { selector: 1 });
-    comes_to(
-        &rt,
-        rt.alloc(),
-        &mut host,
-        &[MINUS],
-        &[44, 7, 44, 2, 29, 1, 51, 0],
-        minus,
-    )
+    let bytes = method_with(rt.alloc(), &[MINUS], &[44, 7, 44, 2, 29, 1, 51, 0])?;
+    comes_to(&rt, &mut host, &bytes, &[int(9)], minus);
+    Ok(())
 }
 
 #[test]
 fn arguments_and_locals(rt: HostRuntime) -> Result<(), Fail> {
     let mut host = over_file(rt.alloc())?;
-    returns(&rt, rt.alloc(), &mut host, &[], &[32, 0, 51, 0], int(9))?;
-    returns(&rt, rt.alloc(), &mut host, &[], &[32, 1, 51, 0], Value::Nil)?;
+    returns(&rt, &mut host, &[], &[32, 0, 51, 0], int(9))?;
+    returns(&rt, &mut host, &[], &[32, 1, 51, 0], Value::Nil)?;
     returns(
         &rt,
-        rt.alloc(),
         &mut host,
         &[],
         &[44, 3, 36, 1, 48, 0, 32, 1, 51, 0],
@@ -78,39 +58,24 @@ fn arguments_and_locals(rt: HostRuntime) -> Result<(), Fail> {
 #[test]
 fn variables(rt: HostRuntime) -> Result<(), Fail> {
     let mut host = over_file(rt.alloc())?;
-    returns(&rt, rt.alloc(), &mut host, &[], &[35, 0, 51, 0], int(-7))?;
-    returns(
-        &rt,
-        rt.alloc(),
-        &mut host,
-        &[],
-        &[44, 3, 39, 0, 51, 0],
-        int(3),
-    )?;
-    assert_eq!(rt; host.variable(0), Ok(int(3)));
+    returns(&rt, &mut host, &[], &[35, 0, 51, 0], int(-7))?;
+    returns(&rt, &mut host, &[], &[44, 3, 39, 0, 51, 0], int(3))?;
+    assert_eq!(rt; host.value(Row::Variables, 0), Ok(int(3)));
     Ok(())
 }
 
 #[test]
 fn bindings(rt: HostRuntime) -> Result<(), Fail> {
     let mut host = over_file(rt.alloc())?;
+    returns(&rt, &mut host, &[BINDING_1], &[34, 0, 51, 0], Value::True)?;
     returns(
         &rt,
-        rt.alloc(),
-        &mut host,
-        &[BINDING_1],
-        &[34, 0, 51, 0],
-        Value::True,
-    )?;
-    returns(
-        &rt,
-        rt.alloc(),
         &mut host,
         &[BINDING_1],
         &[44, 3, 38, 0, 51, 0],
         Value::Nil,
     )?;
-    assert_eq!(rt; host.binding(1), Ok(int(3)));
+    assert_eq!(rt; host.value(Row::Bindings, 1), Ok(int(3)));
     Ok(())
 }
 
@@ -119,20 +84,12 @@ fn jumps(rt: HostRuntime) -> Result<(), Fail> {
     let mut host = over_file(rt.alloc())?;
     returns(
         &rt,
-        rt.alloc(),
         &mut host,
         &[],
         &[41, 2, 45, 1, 45, 2, 51, 0],
         Value::False,
     )?;
-    returns(
-        &rt,
-        rt.alloc(),
-        &mut host,
-        &[],
-        &[41, 4, 44, 8, 51, 0, 40, 6],
-        int(8),
-    )
+    returns(&rt, &mut host, &[], &[41, 4, 44, 8, 51, 0, 40, 6], int(8))
 }
 
 #[test]
@@ -140,7 +97,6 @@ fn branches(rt: HostRuntime) -> Result<(), Fail> {
     let mut host = over_file(rt.alloc())?;
     returns(
         &rt,
-        rt.alloc(),
         &mut host,
         &[],
         &[45, 1, 42, 4, 44, 1, 51, 0, 44, 2, 51, 0],
@@ -148,7 +104,6 @@ fn branches(rt: HostRuntime) -> Result<(), Fail> {
     )?;
     returns(
         &rt,
-        rt.alloc(),
         &mut host,
         &[],
         &[45, 2, 42, 4, 44, 1, 51, 0, 44, 2, 51, 0],
@@ -156,7 +111,6 @@ fn branches(rt: HostRuntime) -> Result<(), Fail> {
     )?;
     returns(
         &rt,
-        rt.alloc(),
         &mut host,
         &[],
         &[45, 1, 43, 4, 44, 1, 51, 0, 44, 2, 51, 0],
@@ -164,7 +118,6 @@ fn branches(rt: HostRuntime) -> Result<(), Fail> {
     )?;
     returns(
         &rt,
-        rt.alloc(),
         &mut host,
         &[],
         &[45, 2, 43, 4, 44, 1, 51, 0, 44, 2, 51, 0],
@@ -178,7 +131,6 @@ fn no_boolean(rt: HostRuntime) -> Result<(), Fail> {
     let mut host = over_file(rt.alloc())?;
     returns(
         &rt,
-        rt.alloc(),
         &mut host,
         &[],
         &[44, 5, 42, 4, 44, 1, 51, 0, 44, 2, 51, 0],
@@ -186,7 +138,6 @@ fn no_boolean(rt: HostRuntime) -> Result<(), Fail> {
     )?;
     returns(
         &rt,
-        rt.alloc(),
         &mut host,
         &[],
         &[45, 0, 43, 4, 44, 1, 51, 0, 44, 2, 51, 0],
@@ -197,26 +148,11 @@ fn no_boolean(rt: HostRuntime) -> Result<(), Fail> {
 #[test]
 fn constants(rt: HostRuntime) -> Result<(), Fail> {
     let mut host = over_file(rt.alloc())?;
+    returns(&rt, &mut host, &[], &[55, 3, 44, 232, 51, 0], int(1000))?;
+    returns(&rt, &mut host, &[], &[45, 0, 51, 0], Value::Nil)?;
+    returns(&rt, &mut host, &[], &[45, 1, 51, 0], Value::True)?;
     returns(
         &rt,
-        rt.alloc(),
-        &mut host,
-        &[],
-        &[55, 3, 44, 232, 51, 0],
-        int(1000),
-    )?;
-    returns(&rt, rt.alloc(), &mut host, &[], &[45, 0, 51, 0], Value::Nil)?;
-    returns(
-        &rt,
-        rt.alloc(),
-        &mut host,
-        &[],
-        &[45, 1, 51, 0],
-        Value::True,
-    )?;
-    returns(
-        &rt,
-        rt.alloc(),
         &mut host,
         &[OBJECT_9],
         &[46, 0, 51, 0],
@@ -224,7 +160,6 @@ fn constants(rt: HostRuntime) -> Result<(), Fail> {
     )?;
     returns(
         &rt,
-        rt.alloc(),
         &mut host,
         &[],
         &[54, 3, 56, 0, 51, 0],
@@ -235,22 +170,8 @@ fn constants(rt: HostRuntime) -> Result<(), Fail> {
 #[test]
 fn pops_and_copies(rt: HostRuntime) -> Result<(), Fail> {
     let mut host = over_file(rt.alloc())?;
-    returns(
-        &rt,
-        rt.alloc(),
-        &mut host,
-        &[],
-        &[44, 3, 52, 0, 8, 0, 51, 0],
-        int(9),
-    )?;
-    returns(
-        &rt,
-        rt.alloc(),
-        &mut host,
-        &[],
-        &[44, 3, 44, 4, 48, 0, 51, 0],
-        int(3),
-    )
+    returns(&rt, &mut host, &[], &[44, 3, 52, 0, 8, 0, 51, 0], int(9))?;
+    returns(&rt, &mut host, &[], &[44, 3, 44, 4, 48, 0, 51, 0], int(3))
 }
 
 #[test]
@@ -258,33 +179,15 @@ fn closures(rt: HostRuntime) -> Result<(), Fail> {
     let mut host = over_file(rt.alloc())?;
     returns(
         &rt,
-        rt.alloc(),
         &mut host,
         &[BLOCK_9],
         &[46, 0, 49, 0, 51, 0],
         Value::Closure(9),
     )?;
     let none = State::Stopped(Stop::NoBlock);
-    comes_to(
-        &rt,
-        rt.alloc(),
-        &mut host,
-        &[BLOCK_9],
-        &[44, 5, 41, 2, 46, 0, 49, 0, 51, 0],
-        none,
-    )
-}
-
-// A block of a chain use with this code comes to a state.
-fn block_comes_to(
-    rt: &(impl Abort + AllocGlobal),
-    host: &mut impl Host,
-    chain: u32,
-    code: &[u8],
-    state: State,
-) -> Result<(), Fail> {
-    let bytes = parcel_of(rt.alloc(), 1, BLOCK | chain, &[], code)?;
-    assert_eq!(rt; state_after(host, &bytes, &[], 20), state);
+    let code = [44, 5, 41, 2, 46, 0, 49, 0, 51, 0];
+    let bytes = method_with(rt.alloc(), &[BLOCK_9], &code)?;
+    comes_to(&rt, &mut host, &bytes, &[int(9)], none);
     Ok(())
 }
 
@@ -295,15 +198,19 @@ fn blocks(rt: HostRuntime) -> Result<(), Fail> {
         how: Ending::Return,
         value: int(3),
     };
-    block_comes_to(&rt, &mut host, 0, &[44, 3, 51, 0], three)?;
+    let bytes = block_of(rt.alloc(), 0, &[44, 3, 51, 0])?;
+    comes_to(&rt, &mut host, &bytes, &[], three);
     let variable = State::Ended {
         how: Ending::Return,
         value: int(-7),
     };
-    block_comes_to(&rt, &mut host, 1, &[35, 0, 51, 0], variable)?;
+    let bytes = block_of(rt.alloc(), 1, &[35, 0, 51, 0])?;
+    comes_to(&rt, &mut host, &bytes, &[], variable);
     let receiver = State::Ended {
         how: Ending::MethodReturn,
         value: Value::Object(42),
     };
-    block_comes_to(&rt, &mut host, 31, &[56, 0, 50, 0], receiver)
+    let bytes = block_of(rt.alloc(), 31, &[56, 0, 50, 0])?;
+    comes_to(&rt, &mut host, &bytes, &[], receiver);
+    Ok(())
 }

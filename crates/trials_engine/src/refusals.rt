@@ -1,8 +1,9 @@
-// What is refused, and what a refusal leaves.
-use crate::worlds::{int, make_steps, method_of, open_in, over_file, over_nothing};
+// What is refused, and what a refusal leaves. Each test opens its own run: a run borrows its bytes, so that no function can hand out the two.
+use crate::worlds::{make_steps, method_of, open_in};
 use engine::Run;
 use hosts::Host;
 use parcels::Ending;
+use samples::{int, over_bytes, over_file};
 use scripts::State;
 use std::process::Abort;
 use std::test::Fail;
@@ -27,7 +28,7 @@ fn open_refused(
     let mut frame = vec![in rt.alloc(); Value::True; cells]?;
     let mut run = Run::empty();
     let answer = open_in(&mut run, &host, &bytes, arguments, &mut frame);
-    assert_eq!(rt; answer, Err(Fault { rule, place: 0 }));
+    assert_eq!(rt; answer, Err(rule.at(0)));
     assert_eq!(rt; run.state(), EMPTY);
     if let Some(v) = frame.get(0) {
         assert_eq!(rt; *v, Value::True);
@@ -47,10 +48,7 @@ fn opening(rt: HostRuntime) -> Result<(), Fail> {
 fn empty_run(rt: HostRuntime) -> Result<(), Fail> {
     let mut host = over_file(rt.alloc())?;
     let mut run = Run::empty();
-    let refused = Fault {
-        rule: Rule::RunNotLive,
-        place: 0,
-    };
+    let refused = Rule::RunNotLive.at(0);
     assert_eq!(rt; run.step(&mut host, &mut []), Err(refused));
     let (state, value) = run.collect();
     assert_eq!(rt; state, EMPTY);
@@ -69,10 +67,7 @@ fn ended_run(rt: HostRuntime) -> Result<(), Fail> {
         Ok(1)
     );
     make_steps(&mut run, &mut host, &mut frame, 2);
-    let refused = Fault {
-        rule: Rule::RunNotLive,
-        place: 2,
-    };
+    let refused = Rule::RunNotLive.at(2);
     assert_eq!(rt; run.step(&mut host, &mut frame), Err(refused));
     let (_, value) = run.collect();
     assert_eq!(rt; value, int(3));
@@ -95,7 +90,7 @@ fn step_refused(
         Ok(1)
     );
     make_steps(&mut run, &mut week, &mut frame, 1);
-    assert_eq!(rt; run.step(host, other), Err(Fault { rule, place: 2 }));
+    assert_eq!(rt; run.step(host, other), Err(rule.at(2)));
     assert_eq!(rt; run.state(), State::Live);
     make_steps(&mut run, &mut week, &mut frame, 1);
     let (_, value) = run.collect();
@@ -105,7 +100,7 @@ fn step_refused(
 
 #[test]
 fn other_counts(rt: HostRuntime) -> Result<(), Fail> {
-    let mut host = over_nothing(rt.alloc())?;
+    let mut host = over_bytes(rt.alloc(), &[])?;
     let mut frame = [Value::Nil; 9];
     step_refused(&rt, &mut host, &mut frame, Rule::CountsDiffer)?;
     step_refused(&rt, &mut host, &mut [], Rule::CountsDiffer)

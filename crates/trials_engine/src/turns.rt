@@ -1,8 +1,9 @@
 // Runs over many steps, in turn, and with frames that are altered between them.
-use crate::worlds::{int, make_steps, method_of, open_in, over_file, state_after};
+use crate::worlds::{make_steps, method_of, open_in, state_after};
 use engine::Run;
-use hosts::Host;
+use hosts::{Host, Row};
 use parcels::Ending;
+use samples::{int, over_file};
 use scripts::{State, Stop};
 use std::test::Fail;
 use values::Value;
@@ -57,11 +58,11 @@ fn two_runs(rt: HostRuntime) -> Result<(), Fail> {
     make_steps(&mut one, &mut host, &mut ones, 1);
     make_steps(&mut other, &mut host, &mut others, 1);
     make_steps(&mut one, &mut host, &mut ones, 5);
-    assert_eq!(rt; host.variable(0), Ok(int(-6)));
+    assert_eq!(rt; host.value(Row::Variables, 0), Ok(int(-6)));
     make_steps(&mut other, &mut host, &mut others, 5);
-    assert_eq!(rt; host.variable(0), Ok(int(-6)));
+    assert_eq!(rt; host.value(Row::Variables, 0), Ok(int(-6)));
     make_steps(&mut one, &mut host, &mut ones, 6);
-    assert_eq!(rt; host.variable(0), Ok(int(-5)));
+    assert_eq!(rt; host.value(Row::Variables, 0), Ok(int(-5)));
     Ok(())
 }
 

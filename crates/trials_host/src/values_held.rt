@@ -1,5 +1,6 @@
 // Values, small integers, the stack, and what a fault says of itself.
-use values::{Fault, Rule, SmallInteger, Stack, Stage, Value};
+use samples::int;
+use values::{Rule, SmallInteger, Stack, Stage, Value};
 
 // Only the low 31 bits count, signed.
 #[test]
@@ -14,8 +15,13 @@ fn low_bits(rt: HostRuntime) {
         (i32::MAX, -1),
         (i32::MIN, 0),
     ] {
-        assert_eq!(rt; SmallInteger::new(n).get(), kept, "{}", n);
-        assert_eq!(rt; SmallInteger::checked(n).is_some(), n == kept, "{}", n);
+        assert_eq!(rt; i32::from(SmallInteger::new(n)), kept, "{}", n);
+        assert_eq!(rt;
+            SmallInteger::try_from(i64::from(n)).is_ok(),
+            n == kept,
+            "{}",
+            n
+        );
     }
 }
 
@@ -52,7 +58,7 @@ fn integers_from_parts(rt: HostRuntime) {
         (0x3FFF_FFFF, 1_073_741_823),
         (0xC000_0000, -1_073_741_824),
     ] {
-        let value = Value::Integer(SmallInteger::new(n));
+        let value = int(n);
         assert_eq!(rt; Value::from_parts(3, number), Some(value), "{}", n);
         assert_eq!(rt; (value.kind(), value.number()), (3, number), "{}", n);
     }
@@ -66,9 +72,9 @@ fn stack_of_two(rt: HostRuntime) {
         height: 0,
     };
     assert_eq!(rt; stack.pop(), None);
-    assert!(rt; stack.push(5));
-    assert!(rt; stack.push(6));
-    assert!(rt; !stack.push(7));
+    assert_eq!(rt; stack.push(5), Ok(()));
+    assert_eq!(rt; stack.push(6), Ok(()));
+    assert_eq!(rt; stack.push(7), Err(7));
     assert_eq!(rt; stack.height, 2);
     assert_eq!(rt; stack.pop(), Some(6));
     assert_eq!(rt; stack.pop(), Some(5));
@@ -85,7 +91,7 @@ fn stack_too_high(rt: HostRuntime) {
         height: 2,
     };
     assert_eq!(rt; stack.pop(), None);
-    assert!(rt; !stack.push(Value::True));
+    assert_eq!(rt; stack.push(Value::True), Err(Value::True));
     assert_eq!(rt; stack.height, 2);
     assert_eq!(rt; cells, [Value::Nil]);
 }
@@ -130,7 +136,7 @@ const RULES: [(Rule, u8, Stage); 33] = [
 #[test]
 fn rules(rt: HostRuntime) {
     for (rule, number, stage) in RULES {
-        let fault = Fault { rule, place: 77 };
+        let fault = rule.at(77);
         assert_eq!(rt; fault.number(), number);
         assert_eq!(rt; fault.stage(), stage, "{}", number);
         assert_eq!(rt; fault.place(), 77, "{}", number);

@@ -1,45 +1,33 @@
 // Week files and the host over them.
-use hosts::{Host, Message};
+use hosts::{Host, Row};
+use samples::{Entry, in_numbers, int, over_file, send_to};
 use std::alloc::{AllocError, Global};
 use std::process::Abort;
 use std::test::Fail;
-use values::{Fault, SmallInteger, Value};
-use week_file::{WeekFile, refusal};
+use values::{Fault, Value};
+use week_file::{WeekFile, check_file};
 
-// The six bytes of a cell.
-type Entry = [u8; 6];
-
-// Open cells that hold nil and minus seven, and trusted ones that hold nil and object 100.
+// Cells that hold nil, an open one and a trusted one.
 const NIL: Entry = [0, 0, 0, 0, 0, 0];
 
-const MINUS_SEVEN: Entry = [0, 3, 255, 255, 255, 249];
-
 const TRUSTED_NIL: Entry = [1, 0, 0, 0, 0, 0];
-
-const OBJECT_100: Entry = [1, 4, 0, 0, 0, 100];
 
 // The bytes of a week file: the first eight, then the cells.
 fn week(heap: Global, header: [u8; 8], cells: &[Entry]) -> Result<Vec<u8>, AllocError> {
     let mut bytes = Vec::new(heap);
     bytes.extend_from_slice(&header)?;
-    for cell in cells {
-        bytes.extend_from_slice(cell)?;
-    }
+    bytes.extend_from_slice(cells.as_flattened())?;
     Ok(bytes)
 }
 
 // One variable and two bindings, receiver object 42.
-fn small_file(heap: Global) -> Result<WeekFile, Fail> {
-    let cells = [MINUS_SEVEN, OBJECT_100, [0, 1, 0, 0, 0, 0]];
-    Ok(WeekFile::open(week(heap, [0, 1, 0, 2, 0, 0, 0, 42], &cells)?))
+fn small_file(heap: Global) -> Result<WeekFile, AllocError> {
+    Ok(over_file(heap)?.into_below())
 }
 
 // Why bytes are refused, in numbers.
 fn why(bytes: &[u8]) -> Option<(u8, usize)> {
-    match refusal(bytes) {
-        Some(fault) => Some((fault.number(), fault.place())),
-        None => None,
-    }
+    missing(check_file(bytes))
 }
 
 // A fault in numbers.
@@ -47,10 +35,7 @@ fn missing<T>(answer: Result<T, Fault>) -> Option<(u8, usize)>
 where
     T: Drop,
 {
-    match answer {
-        Ok(_) => None,
-        Err(fault) => Some((fault.number(), fault.place())),
-    }
+    in_numbers(answer).err()
 }
 
 #[test]
@@ -101,16 +86,16 @@ fn refused_cells(rt: HostRuntime) -> Result<(), Fail> {
 fn reads(rt: HostRuntime) -> Result<(), Fail> {
     let host = small_file(rt.alloc())?;
     assert_eq!(rt; host.receiver(), Value::Object(42));
-    assert_eq!(rt; (host.variable_count(), host.binding_count()), (1, 2));
     assert_eq!(rt;
-        host.variable(0).ok(),
-        Some(Value::Integer(SmallInteger::new(-7)))
+        (host.count(Row::Variables), host.count(Row::Bindings)),
+        (1, 2)
     );
-    assert_eq!(rt; host.binding(0).ok(), Some(Value::Object(100)));
-    assert_eq!(rt; host.binding(1).ok(), Some(Value::True));
-    assert_eq!(rt; host.variable_trusted(0).ok(), Some(false));
-    assert_eq!(rt; host.binding_trusted(0).ok(), Some(true));
-    assert_eq!(rt; host.binding_trusted(1).ok(), Some(false));
+    assert_eq!(rt; host.value(Row::Variables, 0).ok(), Some(int(-7)));
+    assert_eq!(rt; host.value(Row::Bindings, 0).ok(), Some(Value::Object(100)));
+    assert_eq!(rt; host.value(Row::Bindings, 1).ok(), Some(Value::True));
+    assert_eq!(rt; host.trusted(Row::Variables, 0).ok(), Some(false));
+    assert_eq!(rt; host.trusted(Row::Bindings, 0).ok(), Some(true));
+    assert_eq!(rt; host.trusted(Row::Bindings, 1).ok(), Some(false));
     Ok(())
 }
 
@@ -120,9 +105,12 @@ fn bytes_in_order(rt: HostRuntime) -> Result<(), Fail> {
     let header = [0, 1, 0, 1, 1, 2, 3, 4];
     let mut host = WeekFile::open(week(rt.alloc(), header, &[[0, 4, 5, 6, 7, 8], NIL])?);
     assert_eq!(rt; host.receiver(), Value::Object(16_909_060));
-    assert_eq!(rt; host.variable(0).ok(), Some(Value::Object(84_281_096)));
     assert_eq!(rt;
-        missing(host.set_binding(0, Value::Block(16_909_060))),
+        host.value(Row::Variables, 0).ok(),
+        Some(Value::Object(84_281_096))
+    );
+    assert_eq!(rt;
+        missing(host.set_value(Row::Bindings, 0, Value::Block(16_909_060))),
         None
     );
     let after = week(
@@ -137,15 +125,21 @@ fn bytes_in_order(rt: HostRuntime) -> Result<(), Fail> {
 #[test]
 fn cells_not_there(rt: HostRuntime) -> Result<(), Fail> {
     let mut host = small_file(rt.alloc())?;
-    assert_eq!(rt; missing(host.variable(1)), Some((29, 1)));
-    assert_eq!(rt; missing(host.binding(2)), Some((29, 2)));
-    assert_eq!(rt; missing(host.variable_trusted(1)), Some((29, 1)));
+    assert_eq!(rt; missing(host.value(Row::Variables, 1)), Some((29, 1)));
+    assert_eq!(rt; missing(host.value(Row::Bindings, 2)), Some((29, 2)));
+    assert_eq!(rt; missing(host.trusted(Row::Variables, 1)), Some((29, 1)));
     assert_eq!(rt;
-        missing(host.binding_trusted(usize::MAX)),
+        missing(host.trusted(Row::Bindings, usize::MAX)),
         Some((29, usize::MAX))
     );
-    assert_eq!(rt; missing(host.set_variable(1, Value::True)), Some((29, 1)));
-    assert_eq!(rt; missing(host.set_binding(2, Value::True)), Some((29, 2)));
+    assert_eq!(rt;
+        missing(host.set_value(Row::Variables, 1, Value::True)),
+        Some((29, 1))
+    );
+    assert_eq!(rt;
+        missing(host.set_value(Row::Bindings, 2, Value::True)),
+        Some((29, 2))
+    );
     let before = small_file(rt.alloc())?.into_bytes();
     assert_eq!(rt; host.into_bytes().as_slice(), before.as_slice());
     Ok(())
@@ -155,12 +149,18 @@ fn cells_not_there(rt: HostRuntime) -> Result<(), Fail> {
 #[test]
 fn writes(rt: HostRuntime) -> Result<(), Fail> {
     let mut host = small_file(rt.alloc())?;
-    assert_eq!(rt; missing(host.set_variable(0, Value::Closure(258))), None);
-    assert_eq!(rt; missing(host.set_binding(0, Value::Nil)), None);
-    assert_eq!(rt; host.variable(0).ok(), Some(Value::Closure(258)));
-    assert_eq!(rt; host.binding(0).ok(), Some(Value::Nil));
-    assert_eq!(rt; host.binding(1).ok(), Some(Value::True));
-    assert_eq!(rt; host.binding_trusted(0).ok(), Some(true));
+    assert_eq!(rt;
+        missing(host.set_value(Row::Variables, 0, Value::Closure(258))),
+        None
+    );
+    assert_eq!(rt; missing(host.set_value(Row::Bindings, 0, Value::Nil)), None);
+    assert_eq!(rt;
+        host.value(Row::Variables, 0).ok(),
+        Some(Value::Closure(258))
+    );
+    assert_eq!(rt; host.value(Row::Bindings, 0).ok(), Some(Value::Nil));
+    assert_eq!(rt; host.value(Row::Bindings, 1).ok(), Some(Value::True));
+    assert_eq!(rt; host.trusted(Row::Bindings, 0).ok(), Some(true));
     let cells = [[0, 6, 0, 0, 1, 2], TRUSTED_NIL, [0, 1, 0, 0, 0, 0]];
     let after = week(rt.alloc(), [0, 1, 0, 2, 0, 0, 0, 42], &cells)?;
     assert_eq!(rt; host.into_bytes().as_slice(), after.as_slice());
@@ -174,18 +174,13 @@ fn reply(
     receiver: Value,
     arguments: &[Value],
 ) -> Option<Value> {
-    host.send(&Message {
-        is_super: false,
-        selector,
-        receiver,
-        arguments,
-    })
+    send_to(host, false, selector, receiver, arguments)
 }
 
 #[test]
 fn understood(rt: HostRuntime) -> Result<(), Fail> {
     let mut host = small_file(rt.alloc())?;
-    let seven = Value::Integer(SmallInteger::new(7));
+    let seven = int(7);
     assert_eq!(rt; reply(&mut host, 20, Value::Nil, &[]), Some(Value::True));
     assert_eq!(rt; reply(&mut host, 20, Value::False, &[]), Some(Value::False));
     assert_eq!(rt; reply(&mut host, 21, Value::Nil, &[]), Some(Value::False));
@@ -212,13 +207,8 @@ fn ignores(
     arguments: &[Value],
 ) {
     for selector in selectors {
-        let message = Message {
-            is_super,
-            selector: *selector,
-            receiver: Value::Nil,
-            arguments,
-        };
-        assert_eq!(rt; host.send(&message), None, "{}", *selector);
+        let answer = send_to(host, is_super, *selector, Value::Nil, arguments);
+        assert_eq!(rt; answer, None, "{}", *selector);
     }
 }
 
@@ -245,10 +235,16 @@ fn not_understood(rt: HostRuntime) -> Result<(), Fail> {
 fn over_a_refused_file(rt: HostRuntime) -> Result<(), Fail> {
     let mut host = WeekFile::open(week(rt.alloc(), [0, 1, 0, 1, 0, 0, 0, 42], &[NIL])?);
     assert_eq!(rt; host.receiver(), Value::Nil);
-    assert_eq!(rt; (host.variable_count(), host.binding_count()), (0, 0));
-    assert_eq!(rt; missing(host.variable(0)), Some((29, 0)));
-    assert_eq!(rt; missing(host.binding(0)), Some((29, 0)));
-    assert_eq!(rt; missing(host.set_variable(0, Value::True)), Some((29, 0)));
+    assert_eq!(rt;
+        (host.count(Row::Variables), host.count(Row::Bindings)),
+        (0, 0)
+    );
+    assert_eq!(rt; missing(host.value(Row::Variables, 0)), Some((29, 0)));
+    assert_eq!(rt; missing(host.value(Row::Bindings, 0)), Some((29, 0)));
+    assert_eq!(rt;
+        missing(host.set_value(Row::Variables, 0, Value::True)),
+        Some((29, 0))
+    );
     assert_eq!(rt; reply(&mut host, 20, Value::Nil, &[]), Some(Value::True));
     let before = week(rt.alloc(), [0, 1, 0, 1, 0, 0, 0, 42], &[NIL])?;
     assert_eq!(rt; host.into_bytes().as_slice(), before.as_slice());

@@ -1,6 +1,7 @@
 -- One turn of a search for the first fault.
-use Rattle.std.proofs.Common.{◌≡◌, ℕ, zero, suc, ◌+◌, ◌-◌, ◌<◌, ◌≤◌, Some, None, Option, sym, ap, ◌∙◌, arith}
-use Rattle.values.specs.Order.{or_else, first_from}
+use Rattle.std.proofs.Common.{◌≡◌, ℕ, zero, suc, ◌+◌, ◌-◌, ◌<◌, ◌≤◌, Some, None, Ok, Err, Option, sym, refl, ap, ◌∙◌, arith}
+use Rattle.std.specs.Result.{result_err}
+use Rattle.values.specs.Order.{or_else, first_from, unless}
 use Rattle.values.specs.declared.faults.Fault.{Fault}
 
 one_more : (p : ℕ → Option Fault) (i m : ℕ) → 0 < m → first_from p i m ≡ or_else (p i) (first_from p (i + 1) (m - 1))
@@ -8,15 +9,29 @@ one_more p i zero h = absurd (omega arith)
 one_more p i (suc m) h = ap (λ k. or_else (p i) (first_from p (i + 1) k)) (omega arith)
 
 -- a fault at i is the first from i on
-pub here : (p : ℕ → Option Fault) (i n : ℕ) (f : Fault) → i < n → Some f ≡ p i → Some f ≡ first_from p i (n - i)
-here p i n f h e = ap (λ o. or_else o (first_from p (i + 1) (n - i - 1))) e ∙ sym (one_more p i (n - i) (omega arith))
+here_by : (p : ℕ → Option Fault) (i n : ℕ) (f : Fault) → i < n → Some f ≡ p i → Some f ≡ first_from p i (n - i)
+here_by p i n f h e = ap (λ o. or_else o (first_from p (i + 1) (n - i - 1))) e ∙ sym (one_more p i (n - i) (omega arith))
 
 -- no fault at i: the search goes on
-pub on : (p : ℕ → Option Fault) (i n : ℕ) → i < n → None ≡ p i → first_from p (i + 1) (n - (i + 1)) ≡ first_from p i (n - i)
-on p i n h e =
+on_by : (p : ℕ → Option Fault) (i n : ℕ) → i < n → None ≡ p i → first_from p (i + 1) (n - (i + 1)) ≡ first_from p i (n - i)
+on_by p i n h e =
     ap (first_from p (i + 1)) (omega arith)
     ∙ ap (λ o. or_else o (first_from p (i + 1) (n - i - 1))) e
     ∙ sym (one_more p i (n - i) (omega arith))
+
+-- a check answers the fault that there is
+pub result_err-unless : {X : Type 0} (o : Option Fault) (x : X) → result_err (unless o x) ≡ o
+result_err-unless None x = refl
+result_err-unless (Some f) x = refl
+
+module _ {X : Type 0} (x : X) (p : ℕ → Option Fault) (i n : ℕ) (h : i < n) where
+  -- a fault at i is the first from i on
+  pub here : (f : Fault) → Err f ≡ unless (p i) x → Err f ≡ unless (first_from p i (n - i)) x
+  here f e = ap (λ o. unless o x) (here_by p i n f h (ap result_err e ∙ result_err-unless (p i) x))
+
+  -- no fault at i: the search goes on
+  pub on : Ok x ≡ unless (p i) x → first_from p (i + 1) (n - (i + 1)) ≡ first_from p i (n - i)
+  on e = on_by p i n h (ap result_err e ∙ result_err-unless (p i) x)
 
 -- none is left
 pub end : (p : ℕ → Option Fault) (i n : ℕ) → n ≤ i → None ≡ first_from p i (n - i)

@@ -1,5 +1,5 @@
 -- The number and the stage of every rule.
-use Rattle.std.specs.Prelude.{ℕ}
+use Rattle.std.specs.Prelude.{ℕ, List, ◌++◌, codes, decimal}
 use Rattle.values.specs.declared.faults.Rule.{Rule}
 use Rattle.values.specs.declared.faults.Rule.TheVariants.{HeaderShort, KindUnknown, LiteralsTooMany, CodeTooLong, LengthWrong, FlagsReserved, LocalsOverSlots, LiteralWrong, BindingMissing, ListShort, CodeCut, ExtensionFourth, OpcodeUnknown, OperandWrong, CleanBlock, StoreTrusted, ReturnForeign, LandingWrong, ClosureAlone, HeightLow, HeightOver, CodeLeft, HeightsDiffer, ArgumentsDiffer, FrameShort, RunNotLive, CountsDiffer, StepFrameShort, CellMissing, FileShort, CellsTooMany, FileLength, CellWrong}
 use Rattle.values.specs.declared.faults.Stage.{Stage}
@@ -81,3 +81,7 @@ stage_of CellWrong = WeekFile
 -- a rule broken at a place
 abbrev pub fault : Rule → ℕ → Fault
 fault r p = record { rule = r; place = p }
+
+-- a fault for a person: that it refuses, its number, and where it was found
+abbrev pub found : Fault → List ℕ
+found f = codes "refused " ++ (decimal (number_of f.rule) ++ (codes " at " ++ decimal f.place))

@@ -1,5 +1,6 @@
 -- The seven kinds of values, by their numbers.
-use Rattle.std.specs.Prelude.{◌≡◌, ℕ, cond, Some, None, Option, ◌==◌}
+use Rattle.std.specs.Prelude.{◌≡◌, ℕ, ℤ, Bool, true, false, cond, List, ◌++◌, Some, None, Option, ◌==◌, codes, decimal}
+use Rattle.std.specs.Fmt.{signed_decimal}
 use Rattle.std.proofs.Common.{of_z, to_z}
 use Rattle.std.specs.Int.{w32}
 use Rattle.std.specs.Option.{option_map}
@@ -31,9 +32,13 @@ number_of (Closure n) = n
 abbrev pub plain_of : Value → ℕ → Option Value
 plain_of v n = cond (n == 0) (Some v) None
 
+-- the small integer that z is, as a value
+abbrev pub integer : ℤ → Option Value
+integer z = option_map Integer (small z)
+
 -- the small integer whose two's complement n is
 abbrev pub integer_of : ℕ → Option Value
-integer_of n = option_map Integer (small (to_z w32 n))
+integer_of n = integer (to_z w32 n)
 
 -- the value of a kind and a number field, if they keep the rules
 abbrev pub value_of : ℕ → ℕ → Option Value
@@ -49,3 +54,18 @@ value_of k n =
 -- a value is read back from its kind and its number field
 abbrev pub ReadBack : Type 0
 ReadBack = (v : Value) → value_of (kind_of v) (number_of v) ≡ Some v
+
+-- true or false, as a value
+abbrev pub truth : Bool → Value
+truth true = True
+truth false = False
+
+-- a value for a person: its kind, and the number that it holds
+abbrev pub value_text : Value → List ℕ
+value_text Nil = codes "nil"
+value_text True = codes "true"
+value_text False = codes "false"
+value_text (Integer s) = codes "integer " ++ signed_decimal s.value
+value_text (Object n) = codes "object " ++ decimal n
+value_text (Block n) = codes "block " ++ decimal n
+value_text (Closure n) = codes "closure " ++ decimal n

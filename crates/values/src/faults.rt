@@ -1,6 +1,8 @@
 // A fault: which rule was broken, and where.
-ghost use Rattle.std.specs.Prelude.{◌≡◌};
-ghost use Rattle.values.specs.Faults.{number_of, stage_of};
+ghost use Rattle.std.specs.Prelude.{◌≡◌, Some};
+ghost use Rattle.values.specs.Faults.{number_of, stage_of, fault, found};
+
+use std::fmt;
 
 // When a fault is found.
 #[derive(Clone, Copy, PartialEq, Eq, Debug)]
@@ -60,6 +62,26 @@ pub enum Rule {
 pub struct Fault {
     pub rule: Rule,
     pub place: usize,
+}
+
+impl Rule {
+    // The fault of this rule, broken at a place.
+    pub fn at(self, place: usize) -> Fault
+        ensures { result ≡ fault self place }
+    {
+        Fault { rule: self, place }
+    }
+}
+
+impl fmt::Display for Fault {
+    ghost output = { λ f. Some (found f) };
+
+    // Its number and where it was found, as a refusal.
+    fn fmt<W: fmt::Write>(&self, f: &mut fmt::Formatter<W>) -> fmt::Result {
+        let number = self.number();
+        let place = self.place;
+        write!(f, "refused {number} at {place}")
+    }
 }
 
 impl Fault {

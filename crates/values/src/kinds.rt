@@ -1,8 +1,11 @@
 // What a cell may hold.
-ghost use Rattle.std.specs.Prelude.{◌≡◌};
-ghost use Rattle.values.specs.Kinds.{kind_of, number_of, plain_of, integer_of, value_of, ReadBack};
+ghost use Rattle.std.specs.Prelude.{◌≡◌, Some};
+ghost use Rattle.std.specs.Option.{ok_or};
+ghost use Rattle.values.specs.Kinds.{kind_of, number_of, plain_of, integer, value_of, truth, value_text, ReadBack};
 
 use crate::small::SmallInteger;
+use crate::unknown::Unknown;
+use std::fmt;
 
 // A value of one of the seven kinds.
 #[derive(Clone, Copy, PartialEq, Eq, Debug)]
@@ -17,7 +20,7 @@ pub enum Value {
 }
 
 impl Value {
-    // The number of its kind, 0 to 6.
+    // The number of its kind, 0 to 6, as the formats write it. An enum of the kinds would be this one again, without what a value holds.
     pub fn kind(self) -> u8
         ensures { result ≡ kind_of self }
     {
@@ -37,11 +40,9 @@ impl Value {
         ensures { result ≡ number_of self }
     {
         match self {
-            Value::Integer(s) => s.get().cast_unsigned(),
-            Value::Object(n) => n,
-            Value::Block(n) => n,
-            Value::Closure(n) => n,
-            _ => 0,
+            Value::Integer(s) => i32::from(s).cast_unsigned(),
+            Value::Object(n) | Value::Block(n) | Value::Closure(n) => n,
+            Value::Nil | Value::True | Value::False => 0,
         }
     }
 
@@ -58,17 +59,7 @@ impl Value {
 fn plain(v: Value, number: u32) -> Option<Value>
     ensures { result ≡ plain_of v number }
 {
-    if number == 0 { Some(v) } else { None }
-}
-
-// A small integer, in two's complement.
-fn integer(number: u32) -> Option<Value>
-    ensures { result ≡ integer_of number }
-{
-    match SmallInteger::checked(number.cast_signed()) {
-        Some(s) => Some(Value::Integer(s)),
-        None => None,
-    }
+    (number == 0).then_some(v)
 }
 
 // The value of a kind, by the rule of that kind.
@@ -79,10 +70,50 @@ fn of_kind(kind: u8, number: u32) -> Option<Value>
         0 => plain(Value::Nil, number),
         1 => plain(Value::True, number),
         2 => plain(Value::False, number),
-        3 => integer(number),
+        3 => Value::try_from(i64::from(number.cast_signed())).ok(),
         4 => Some(Value::Object(number)),
         5 => Some(Value::Block(number)),
         6 => Some(Value::Closure(number)),
         _ => None,
+    }
+}
+
+impl TryFrom<i64> for Value {
+    type Error = Unknown<i64>;
+
+    ghost try_from_gives = { λ n r. r ≡ ok_or (integer n) (record { 0 = n }) };
+
+    // The small integer that n is, as a value.
+    fn try_from(n: i64) -> Result<Value, Unknown<i64>> {
+        Ok(Value::Integer(SmallInteger::try_from(n)?))
+    }
+}
+
+impl From<bool> for Value {
+    ghost from_gives = { λ b v. v ≡ truth b };
+
+    // True or false, as a value.
+    fn from(b: bool) -> Value {
+        if b { Value::True } else { Value::False }
+    }
+}
+
+impl fmt::Display for Value {
+    ghost output = { λ v. Some (value_text v) };
+
+    // Its kind, and the number that it holds.
+    fn fmt<W: fmt::Write>(&self, f: &mut fmt::Formatter<W>) -> fmt::Result {
+        match *self {
+            Value::Nil => write!(f, "nil"),
+            Value::True => write!(f, "true"),
+            Value::False => write!(f, "false"),
+            Value::Integer(s) => {
+                let n = i32::from(s);
+                write!(f, "integer {n}")
+            }
+            Value::Object(n) => write!(f, "object {n}"),
+            Value::Block(n) => write!(f, "block {n}"),
+            Value::Closure(n) => write!(f, "closure {n}"),
+        }
     }
 }

@@ -5,8 +5,10 @@ mod faults;
 mod kinds;
 mod small;
 mod stacks;
+mod unknown;
 
 pub use faults::{Fault, Rule, Stage};
 pub use kinds::Value;
 pub use small::SmallInteger;
 pub use stacks::Stack;
+pub use unknown::Unknown;

@@ -1,4 +1,4 @@
-// A small integer: 31 bits, signed. The functions that make one stand in `making`, whose specs name the struct.
+// A small integer: 31 bits, signed. The functions that make one stand in `making`: the definitions that their contracts name are about this struct.
 ghost use Rattle.std.specs.Prelude.{pos, negsuc, ◌≤ℤ◌, ◌<ℤ◌};
 
 mod making;

@@ -1,4 +1,5 @@
 pub mod Pieces
+pub mod Searching
 pub mod Writes
 pub mod Asking
 pub mod ReadBack

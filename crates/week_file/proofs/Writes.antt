@@ -1,5 +1,5 @@
 -- What a write of one cell leaves.
-use Rattle.std.proofs.Common.{◌≡◌, ℕ, zero, suc, ◌+◌, ◌-◌, ◌*◌, ◌/◌, ◌%◌, ◌<◌, ◌≤◌, Bool, true, false, cond, ◌⊎◌, List, ◌∷◌, ◌++◌, length, take, drop, is_some, unwrap_or, sym, refl, ap, ◌∙◌, subst, inl, inr, le_of_suc-le-suc, not-suc-le-zero, arith, length-append, length-drop}
+use Rattle.std.proofs.Common.{◌≡◌, ℕ, zero, suc, ◌+◌, ◌-◌, ◌*◌, ◌/◌, ◌%◌, ◌<◌, ◌≤◌, Bool, true, false, cond, ◌⊎◌, List, ◌∷◌, ◌++◌, length, take, drop, is_some, Some, None, unwrap_or, sym, refl, ap, ◌∙◌, subst, inl, inr, le_of_suc-le-suc, not-suc-le-zero, arith, length-append, length-drop}
 use Rattle.std.proofs.lemmas.List.{length-take-le, get_or_append_left, get_or-append_right, get_or-take, get_or-drop}
 use Rattle.std.proofs.lemmas.Bool.{cases_order}
 use Rattle.values.specs.Bytes.{at, be16, be32}
@@ -7,10 +7,14 @@ use Rattle.values.specs.Kinds.{kind_of, number_of}
 use Rattle.values.specs.declared.kinds.Value.{Value}
 use Rattle.values.specs.declared.kinds.Value.TheVariants.{Nil, Object}
 use Rattle.values.proofs.Parts.{read_back}
-use Rattle.hosts.specs.Meaning.{Cell, Meaning, put, with_variable, with_binding}
+use Rattle.hosts.specs.declared.rows.Row.{Row}
+use Rattle.hosts.specs.declared.rows.Row.TheVariants.{Variables, Bindings}
+use Rattle.hosts.specs.Meaning.{Cell, Meaning, put, with_cell}
+use Rattle.week_file.specs.Rows.{start_of, count_of}
 use Rattle.hosts.proofs.Cells.{put_past}
 use Rattle.week_file.specs.Cells.{raw_at, cell_of, five_bytes, written}
-use Rattle.week_file.specs.Files.{accepted, cells, variable_count, binding_count, binding_start, week_meaning, CellAt}
+use Rattle.week_file.specs.Headers.{header_of}
+use Rattle.week_file.specs.Files.{accepted, good_header, cells, variable_count, binding_count, binding_start, week_meaning, CellAt}
 use Rattle.week_file.specs.Laws.{Sound, IsWeekFile}
 use Rattle.week_file.specs.Replies.{replies}
 use Rattle.week_file.proofs.Pieces.{raw, same_raw}
@@ -108,6 +112,13 @@ module _ (b : List ℕ) (o : ℕ) (v : Value) (h : o + 6 ≤ length b) where
     count_bindings : be16 (written b o v) 2 ≡ be16 b 2
     count_bindings = same_16 b (written b o v) 2 (λ k l m. before k (omega arith))
 
+    header_same : header_of (written b o v) ≡ header_of b
+    header_same =
+        let r = same_32 b (written b o v) 4 (λ k l m. before k (omega arith)) in
+        let p = count_variables in
+        let q = count_bindings in
+        cc
+
     -- the file keeps its rules still
     still : IsWeekFile b → IsWeekFile (written b o v)
     still w = record {
@@ -129,6 +140,11 @@ pub accepted_written : (b : List ℕ) (o : ℕ) (v : Value) → CellAt b o → a
 accepted_written b o v x = accept (written b o v) (still b o v (fits b o x) x.1.0 x.1.2 (kept b x.0)) ∙ sym x.0
 
 module _ (b : List ℕ) (o : ℕ) (v : Value) (x : CellAt b o) where
+  pub header_written : good_header (written b o v) ≡ good_header b
+  header_written =
+      ap (λ t. cond t (Some (header_of (written b o v))) None) (accepted_written b o v x)
+      ∙ ap (λ h. cond (accepted b) (Some h) None) (header_same b o v (fits b o x) x.1.0 x.1.2)
+
   receiver_same : (week_meaning (written b o v)).receiver ≡ (week_meaning b).receiver
   receiver_same =
       ap (λ t. cond t (Object (be32 (written b o v) 4)) Nil) (accepted_written b o v x)
@@ -156,36 +172,28 @@ counted : (t : Bool) (n i : ℕ) → i < cond t n 0 → (t ≡ true) × (i < n)
 counted true n i h = (refl, h)
 counted false n i h = absurd (not-suc-le-zero h)
 
-module _ (b : List ℕ) (i : ℕ) where
-  pub variable_cell : (o : ℕ) → Found 8 (variable_count b) i o → CellAt b o
-  variable_cell o f = let p = counted (accepted b) (be16 b 0) i f.below in (p.0, (i, omega (arith, p.1), f.begins))
+-- cell i of a row, which begins at o
+pub cell_in : (b : List ℕ) (w : Row) (i o : ℕ) → Found (start_of b w) (count_of b w) i o → CellAt b o
+cell_in b Variables i o f = let p = counted (accepted b) (be16 b 0) i f.below in (p.0, (i, omega (arith, p.1), f.begins))
+cell_in b Bindings i o f =
+    let p = counted (accepted b) (be16 b 2) i f.below in
+    let e : variable_count b ≡ be16 b 0 = ap (λ t. cond t (be16 b 0) 0) p.0 in
+    (p.0, (be16 b 0 + i, omega (arith, p.1), omega (arith, f.begins, e)))
 
-  pub binding_cell : (o : ℕ) → Found (binding_start b) (binding_count b) i o → CellAt b o
-  binding_cell o f =
-      let p = counted (accepted b) (be16 b 2) i f.below in
-      let e : variable_count b ≡ be16 b 0 = ap (λ t. cond t (be16 b 0) 0) p.0 in
-      (p.0, (be16 b 0 + i, omega (arith, p.1), omega (arith, f.begins, e)))
+-- a number that no cell of a row has
+pub past_in : (b : List ℕ) (w : Row) (i : ℕ) (v : Value) → count_of b w ≤ i → week_meaning b ≡ with_cell (week_meaning b) w i v
+past_in b Variables i v h = ap (λ xs. formed (week_meaning b).receiver xs (week_meaning b).bindings) (sym (put_past (week_meaning b).variables i v (omega (arith, h, length_cells b 8 (variable_count b)))))
+past_in b Bindings i v h = ap (formed (week_meaning b).receiver (week_meaning b).variables) (sym (put_past (week_meaning b).bindings i v (omega (arith, h, length_cells b (binding_start b) (binding_count b)))))
 
-  -- a number that no variable or no binding has
-  pub variable_past : (v : Value) → variable_count b ≤ i → week_meaning b ≡ with_variable (week_meaning b) i v
-  variable_past v h = ap (λ xs. formed (week_meaning b).receiver xs (week_meaning b).bindings) (sym (put_past (week_meaning b).variables i v (omega (arith, h, length_cells b 8 (variable_count b)))))
-
-  pub binding_past : (v : Value) → binding_count b ≤ i → week_meaning b ≡ with_binding (week_meaning b) i v
-  binding_past v h = ap (formed (week_meaning b).receiver (week_meaning b).variables) (sym (put_past (week_meaning b).bindings i v (omega (arith, h, length_cells b (binding_start b) (binding_count b)))))
-
-module _ (b : List ℕ) (i o : ℕ) where
-  -- a write of variable i, in the file's meaning
-  pub variable_put : (v : Value) → Found 8 (variable_count b) i o → week_meaning (written b o v) ≡ with_variable (week_meaning b) i v
-  variable_put v f =
-      let x = variable_cell b i o f in
-      laid b o v x
-      ∙ ap (λ xs. formed (week_meaning b).receiver xs (cells (written b o v) (binding_start b) (binding_count b))) (cells_put b o v (fits b o x) 8 (variable_count b) i f.below f.begins)
-      ∙ ap (formed (week_meaning b).receiver (put (cells b 8 (variable_count b)) i v)) (same_cells b (written b o v) (binding_start b) (binding_count b) (λ k l m. after b o v (fits b o x) k (omega (arith, f.below, f.begins))))
-
-  -- a write of binding i
-  pub binding_put : (v : Value) → Found (binding_start b) (binding_count b) i o → week_meaning (written b o v) ≡ with_binding (week_meaning b) i v
-  binding_put v f =
-      let x = binding_cell b i o f in
-      laid b o v x
-      ∙ ap (λ xs. formed (week_meaning b).receiver xs (cells (written b o v) (binding_start b) (binding_count b))) (same_cells b (written b o v) 8 (variable_count b) (λ k l m. before b o v (fits b o x) k (omega (arith, f.begins))))
-      ∙ ap (formed (week_meaning b).receiver (cells b 8 (variable_count b))) (cells_put b o v (fits b o x) (binding_start b) (binding_count b) i f.below f.begins)
+-- a write to cell i of a row, in the file's meaning
+pub put_in : (b : List ℕ) (w : Row) (i o : ℕ) (v : Value) → Found (start_of b w) (count_of b w) i o → week_meaning (written b o v) ≡ with_cell (week_meaning b) w i v
+put_in b Variables i o v f =
+    let x = cell_in b Variables i o f in
+    laid b o v x
+    ∙ ap (λ xs. formed (week_meaning b).receiver xs (cells (written b o v) (binding_start b) (binding_count b))) (cells_put b o v (fits b o x) 8 (variable_count b) i f.below f.begins)
+    ∙ ap (formed (week_meaning b).receiver (put (cells b 8 (variable_count b)) i v)) (same_cells b (written b o v) (binding_start b) (binding_count b) (λ k l m. after b o v (fits b o x) k (omega (arith, f.below, f.begins))))
+put_in b Bindings i o v f =
+    let x = cell_in b Bindings i o f in
+    laid b o v x
+    ∙ ap (λ xs. formed (week_meaning b).receiver xs (cells (written b o v) (binding_start b) (binding_count b))) (same_cells b (written b o v) 8 (variable_count b) (λ k l m. before b o v (fits b o x) k (omega (arith, f.begins))))
+    ∙ ap (formed (week_meaning b).receiver (cells b 8 (variable_count b))) (cells_put b o v (fits b o x) (binding_start b) (binding_count b) i f.below f.begins)

@@ -7,8 +7,7 @@ use Rattle.values.specs.Faults.{fault}
 use Rattle.values.specs.Order.{first}
 use Rattle.values.specs.declared.faults.Fault.{Fault}
 use Rattle.values.specs.declared.faults.Rule.TheVariants.{CellWrong}
-use Rattle.week_file.specs.declared.cells.RawCell.{RawCell}
-use Rattle.week_file.specs.Cells.{raw_at, value_in, keeps_rules}
+use Rattle.week_file.specs.Cells.{RawCell, raw_at, value_in, keeps_rules}
 use Rattle.week_file.specs.Files.{cell_tests, accepted}
 use Rattle.week_file.specs.Laws.{Sound, IsWeekFile, AcceptsExactly}
 
@@ -30,7 +29,7 @@ search_here b n k h e =
 -- a cell that keeps its rules
 there : {X : Type 0} (o : Option X) → is_some o ≡ true → (x : X) × (o ≡ Some x)
 there (Some x) e = (x, refl)
-there None e = let z : ◌≡◌ {A = ℕ} 0 1 = cc in absurd (omega arith)
+there None e = absurd cc
 
 mark_from : (m : ℕ) → ((m == 0) ≡ true) ⊎ ((m == 1) ≡ true) → (m ≡ 0) ⊎ (m ≡ 1)
 mark_from m (inl e) = inl (eqb-true m 0 e)

@@ -1,5 +1,5 @@
 -- What a whole week file means.
-use Rattle.std.specs.Prelude.{◌≡◌, ℕ, zero, suc, ◌+◌, ◌*◌, ◌<◌, Bool, true, cond, not, List, [], ◌∷◌, length, is_some, Some, Ok, Err, Option, Result, ◌==◌, nat_lt}
+use Rattle.std.specs.Prelude.{◌≡◌, ℕ, zero, suc, ◌+◌, ◌*◌, ◌<◌, Bool, true, cond, not, List, [], ◌∷◌, length, is_some, Some, None, Ok, Err, Option, Result, ◌==◌, nat_lt}
 use Rattle.values.specs.Bytes.{be16, be32}
 use Rattle.values.specs.Faults.{fault}
 use Rattle.values.specs.Order.{Test, test, first}
@@ -9,7 +9,9 @@ use Rattle.values.specs.declared.kinds.Value.{Value}
 use Rattle.values.specs.declared.kinds.Value.TheVariants.{Nil, Object}
 use Rattle.hosts.specs.Meaning.{Cell, Sent, Meaning}
 use Rattle.week_file.specs.Cells.{raw_at, keeps_rules, cell_of, written}
+use Rattle.week_file.specs.Headers.{header_of}
 use Rattle.week_file.specs.Replies.{replies}
+use Rattle.week_file.specs.declared.headers.Header.{Header}
 
 -- a test for each of n cells from o on
 abbrev pub cell_tests : List ℕ → ℕ → ℕ → List Test
@@ -29,6 +31,10 @@ why_refused b =
 -- a file is accepted where it breaks none
 abbrev pub accepted : List ℕ → Bool
 accepted b = not (is_some (why_refused b))
+
+-- the header of a file that is accepted; a refused file has none
+abbrev pub good_header : List ℕ → Option Header
+good_header b = cond (accepted b) (Some (header_of b)) None
 
 -- n cells from o on
 abbrev pub cells : List ℕ → ℕ → ℕ → List Cell

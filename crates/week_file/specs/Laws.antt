@@ -4,8 +4,7 @@ use Rattle.std.specs.List.{slice_get}
 use Rattle.values.specs.Bytes.{be16}
 use Rattle.values.specs.declared.kinds.Value.{Value}
 use Rattle.hosts.specs.Meaning.{Cell, mark_of, value_at}
-use Rattle.week_file.specs.declared.cells.RawCell.{RawCell}
-use Rattle.week_file.specs.Cells.{raw_at, value_in}
+use Rattle.week_file.specs.Cells.{RawCell, raw_at, value_in}
 use Rattle.week_file.specs.Files.{accepted, variable_count, binding_count, week_meaning, variable_written, binding_written}
 
 -- a cell is marked open or trusted, and a value has its kind and its number field

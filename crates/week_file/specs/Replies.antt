@@ -1,14 +1,9 @@
 -- What a week file answers to a message.
-use Rattle.std.specs.Prelude.{ℕ, Bool, true, false, cond, not, ◌&&◌, List, [], ◌∷◌, Some, None, Option, ◌==◌}
-use Rattle.values.specs.Kinds.{kind_of, number_of}
+use Rattle.std.specs.Prelude.{ℕ, Bool, cond, not, ◌&&◌, List, [], ◌∷◌, Some, None, Option, ◌==◌}
+use Rattle.values.specs.Kinds.{kind_of, number_of, truth}
 use Rattle.values.specs.declared.kinds.Value.{Value}
-use Rattle.values.specs.declared.kinds.Value.TheVariants.{Nil, True, False}
+use Rattle.values.specs.declared.kinds.Value.TheVariants.{Nil}
 use Rattle.hosts.specs.Meaning.{Sent}
-
--- true or false, as a value
-abbrev pub truth : Bool → Value
-truth true = True
-truth false = False
 
 -- two values have one kind and one number
 abbrev pub same_value : Value → Value → Bool

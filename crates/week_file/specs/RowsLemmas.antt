@@ -35,13 +35,13 @@ pub record Missing (n i : ℕ) (f : Fault) : Type 0 where
 module _ (s n i : ℕ) where
   found_by : (t : Bool) (p : ℕ) → nat_lt i n ≡ t → Ok p ≡ cond t (Ok (s + 6 * i)) (Err (fault CellMissing i)) → Found s n i p
   found_by true p e h = record { below = ltb-true i n e; begins = cc }
-  found_by false p e h = let z : ◌≡◌ {A = ℕ} 0 1 = cc in absurd (omega arith)
+  found_by false p e h = absurd cc
 
   pub found : (p : ℕ) → Ok p ≡ place_in s n i → Found s n i p
   found p h = found_by (nat_lt i n) p refl h
 
   missing_by : (t : Bool) (f : Fault) → nat_lt i n ≡ t → Err f ≡ cond t (Ok (s + 6 * i)) (Err (fault CellMissing i)) → Missing n i f
-  missing_by true f e h = let z : ◌≡◌ {A = ℕ} 0 1 = cc in absurd (omega arith)
+  missing_by true f e h = absurd cc
   missing_by false f e h = record { past = ltb-false i n e; says = cc }
 
   pub missing : (f : Fault) → Err f ≡ place_in s n i → Missing n i f
@@ -67,7 +67,7 @@ module _ (s n i : ℕ) where
 
 -- a value that is put into a cell
 pub nth_put : (cs : List Cell) (i : ℕ) (v : Value) (c : Cell) → slice_get cs i ≡ Some c → slice_get (put cs i v) i ≡ Some (record { trusted = c.trusted; value = v })
-nth_put [] i v c e = let z : ◌≡◌ {A = ℕ} 0 1 = cc in absurd (omega arith)
+nth_put [] i v c e = absurd cc
 nth_put (d ∷ cs) zero v c e = let q : d ≡ c = cc in ap (λ (x : Cell). Some (record { trusted = x.trusted; value = v })) q
 nth_put (d ∷ cs) (suc i) v c e = nth_put cs i v c e
 

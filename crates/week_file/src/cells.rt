@@ -1,6 +1,6 @@
 // One cell of a week file: a mark byte, a kind byte and a number field of four bytes.
 ghost use Rattle.std.specs.Prelude.{◌≡◌, ◌+◌, ◌≤◌, length};
-ghost use Rattle.week_file.specs.Cells.{raw_at, keeps_rules, cell_of, written};
+ghost use Rattle.week_file.specs.Cells.{raw_at, trusted_by, stored, breaks_rules, written};
 
 use values::Value;
 
@@ -13,54 +13,44 @@ const OPEN: u8 = 0;
 // The mark of a trusted cell.
 const TRUSTED: u8 = 1;
 
-// What the six bytes of a cell say, right or wrong.
+// Whether a cell with this mark is trusted, if it is a mark. A mark is a yes or no, so that an enum of the two would say no more than a bool.
+fn trusted_by(mark: u8) -> Option<bool>
+    ensures { result ≡ trusted_by mark }
+{
+    match mark {
+        OPEN => Some(false),
+        TRUSTED => Some(true),
+        _ => None,
+    }
+}
+
+// A cell of a file: whether it is trusted, and its value.
 #[derive(Clone, Copy)]
-pub(crate) struct RawCell {
-    mark: u8,
-    kind: u8,
-    number: u32,
+pub(crate) struct FileCell {
+    pub(crate) trusted: bool,
+    pub(crate) value: Value,
 }
 
-impl RawCell {
-    // The cell that begins at `place`.
-    pub(crate) fn read(bytes: &[u8], place: usize) -> RawCell
-        requires { place + 6 ≤ length bytes.now }
-        ensures { result ≡ raw_at bytes.now place }
+impl FileCell {
+    // The cell in these six bytes, if they keep the rules of a cell.
+    pub(crate) fn read(cell: &[u8; CELL]) -> Option<FileCell>
+        ensures { result ≡ stored (raw_at cell.now 0) }
     {
-        match &bytes[place..place + CELL] {
-            [mark, kind, a, b, c, d] => RawCell {
-                mark: *mark,
-                kind: *kind,
-                number: u32::from_be_bytes([*a, *b, *c, *d]),
-            },
-            _ => unreachable(),
-        }
-    }
-
-    // Whether it keeps the rules of a cell.
-    pub(crate) fn keeps_rules(self) -> bool
-        ensures { result ≡ keeps_rules self }
-    {
-        (self.mark == OPEN || self.mark == TRUSTED)
-            && Value::from_parts(self.kind, self.number).is_some()
-    }
-
-    // Whether it is trusted.
-    pub(crate) fn trusted(self) -> bool
-        ensures { result ≡ (cell_of self).trusted }
-    {
-        self.mark == TRUSTED
-    }
-
-    // Its value; nil where there is none.
-    pub(crate) fn value(self) -> Value
-        ensures { result ≡ (cell_of self).value }
-    {
-        Value::from_parts(self.kind, self.number).unwrap_or(Value::Nil)
+        let [mark, kind, a, b, c, d] = *cell;
+        let trusted = trusted_by(mark)?;
+        let value = Value::from_parts(kind, u32::from_be_bytes([a, b, c, d]))?;
+        Some(FileCell { trusted, value })
     }
 }
 
-// Writes v into the cell that begins at `place`, and leaves its mark.
+// Whether these six bytes break the rules of a cell.
+pub(crate) fn breaks_rules(cell: &[u8; CELL]) -> bool
+    ensures { result ≡ breaks_rules cell.now }
+{
+    FileCell::read(cell).is_none()
+}
+
+// Writes v into the cell that begins at `place`, and leaves its mark. The whole file is lent, as its contract says what the rest of it keeps.
 pub(crate) fn write_value(bytes: &mut [u8], place: usize, v: Value)
     requires { place + 6 ≤ length bytes.old }
     ensures { bytes.new ≡ written bytes.old place v }

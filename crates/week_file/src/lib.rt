@@ -6,7 +6,6 @@ mod file;
 mod headers;
 mod opening;
 mod replies;
-mod row;
 
 pub use file::WeekFile;
-pub use opening::refusal;
+pub use opening::check_file;

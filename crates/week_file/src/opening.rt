@@ -1,60 +1,60 @@
 // Why bytes are no week file.
-ghost use Rattle.std.specs.Prelude.{◌≡◌, ◌+◌, ◌*◌, length};
-ghost use Rattle.values.specs.Order.{first};
+ghost use Rattle.std.specs.Prelude.{◌≡◌, ◌-◌, ◌/◌, ◌≤◌, length, position};
+ghost use Rattle.values.specs.Order.{first, unless};
+ghost use Rattle.week_file.specs.Cells.{breaks_rules};
 ghost use Rattle.week_file.specs.Files.{cell_tests, why_refused};
+ghost use Rattle.week_file.specs.Headers.{header_of};
 
-use crate::cells::{CELL, RawCell};
+use crate::cells::{CELL, breaks_rules};
 use crate::headers::{HEADER, Header};
+use hosts::Row;
 use values::{Fault, Rule};
 
 // The most variables, and the most bindings.
-const MOST: usize = 1024;
+const MOST: u16 = 1024;
 
-// The first of `count` cells that breaks its rules.
-fn first_wrong(bytes: &[u8], count: usize) -> Option<Fault>
-    requires { length bytes.now ≡ 8 + 6 * count }
-    ensures { result ≡ first (cell_tests bytes.now 8 count) }
+// The number of the first cell that breaks its rules, if one does.
+fn first_wrong(cells: &[[u8; CELL]]) -> Option<usize>
+    ensures { result ≡ position breaks_rules cells.now }
 {
-    for k in 0..count {
-        let place = HEADER + CELL * k;
-        if !RawCell::read(bytes, place).keeps_rules() {
-            return Some(Fault {
-                rule: Rule::CellWrong,
-                place,
-            });
-        }
-    }
-    None
+    cells.iter().position(breaks_rules)
 }
 
-// The first rule that the bytes break, if they break one.
-pub fn refusal(bytes: &[u8]) -> Option<Fault>
-    ensures { result ≡ why_refused bytes.now }
+// Refuses the first cell that breaks its rules, if one does.
+fn check_cells(bytes: &[u8]) -> Result<(), Fault>
+    requires { 8 ≤ length bytes.now }
+    ensures { result ≡ unless (first (cell_tests bytes.now 8 ((length bytes.now - 8) / 6))) tt }
 {
-    let Some(header) = Header::read(bytes) else {
-        return Some(Fault {
-            rule: Rule::FileShort,
-            place: 0,
-        });
-    };
+    let (cells, _) = bytes[HEADER..].as_chunks();
+    match first_wrong(cells) {
+        Some(k) => Err(Rule::CellWrong.at(HEADER + CELL * k)),
+        None => Ok(()),
+    }
+}
+
+// The header of bytes that break no rule; otherwise the first rule that they break.
+pub(crate) fn checked_header(bytes: &[u8]) -> Result<Header, Fault>
+    ensures { result ≡ unless (why_refused bytes.now) (header_of bytes.now) }
+{
+    let header = Header::read(bytes).ok_or(Rule::FileShort.at(0))?;
     if header.variables > MOST {
-        return Some(Fault {
-            rule: Rule::CellsTooMany,
-            place: 0,
-        });
+        return Err(Rule::CellsTooMany.at(0));
     }
     if header.bindings > MOST {
-        return Some(Fault {
-            rule: Rule::CellsTooMany,
-            place: 2,
-        });
+        return Err(Rule::CellsTooMany.at(2));
     }
-    let count = header.variables + header.bindings;
+    let count = header.count(Row::Variables) + header.count(Row::Bindings);
     if bytes.len() != HEADER + CELL * count {
-        return Some(Fault {
-            rule: Rule::FileLength,
-            place: 0,
-        });
+        return Err(Rule::FileLength.at(0));
     }
-    first_wrong(bytes, count)
+    check_cells(bytes)?;
+    Ok(header)
+}
+
+// Refuses bytes that break a rule, by the first that they break.
+pub fn check_file(bytes: &[u8]) -> Result<(), Fault>
+    ensures { result ≡ unless (why_refused bytes.now) tt }
+{
+    checked_header(bytes)?;
+    Ok(())
 }

@@ -1,9 +1,11 @@
 // Small integers out of numbers, and back.
 ghost use Rattle.std.specs.Prelude.{◌≡◌};
+ghost use Rattle.std.specs.Option.{ok_or};
 ghost use Rattle.values.specs.Low.{low31};
 ghost use Rattle.values.specs.Small.{small};
 
 use super::SmallInteger;
+use crate::unknown::Unknown;
 
 impl SmallInteger {
     // The low 31 bits of n, signed.
@@ -19,22 +21,37 @@ impl SmallInteger {
             }
         }
     }
+}
+
+impl TryFrom<i64> for SmallInteger {
+    type Error = Unknown<i64>;
+
+    ghost try_from_gives = { λ n r. r ≡ ok_or (small n) (record { 0 = n }) };
 
     // The small integer that n is, if it is one.
-    pub fn checked(n: i32) -> Option<SmallInteger>
-        ensures { result ≡ small n }
-    {
+    fn try_from(n: i64) -> Result<SmallInteger, Unknown<i64>> {
         if -0x4000_0000 <= n && n < 0x4000_0000 {
-            Some(SmallInteger { value: n })
+            Ok(SmallInteger { value: n as i32 })
         } else {
-            None
+            Err(Unknown(n))
         }
     }
+}
+
+impl From<SmallInteger> for i64 {
+    ghost from_gives = { λ s n. n ≡ s.value };
+
+    // The number itself, in twice the width: any sum or product of two fits.
+    fn from(s: SmallInteger) -> i64 {
+        i64::from(s.value)
+    }
+}
+
+impl From<SmallInteger> for i32 {
+    ghost from_gives = { λ s n. n ≡ s.value };
 
     // The number itself.
-    pub fn get(self) -> i32
-        ensures { result ≡ self.value }
-    {
-        self.value
+    fn from(s: SmallInteger) -> i32 {
+        s.value
     }
 }

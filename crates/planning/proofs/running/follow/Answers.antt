@@ -2,16 +2,15 @@ use Rattle.std.proofs.Common.{sym, ◌∙◌, subst}
 use Rattle.scripts.specs.Running.{Answer, Steps}
 use Rattle.engine.specs.View.{view}
 use Rattle.planning.specs.Keeping.{none, more}
-use Rattle.planning.proofs.Leading.{no_err, stepped, unrefused, goes_further}
+use Rattle.planning.proofs.Leading.{stepped, unrefused, goes_further}
 use Rattle.planning.proofs.running.follow.Goals as goal
 
 pub loop-k-init : goal.loop-k-init
 loop-k-init g c = ((λ t s₀ led. led), c.requires, none)
 
-pub unreachable-requires : goal.unreachable-requires
-unreachable-requires g c =
-    no_err (sym c.in-Err.is
-    ∙ unrefused g.H.Host.means g.H.Host.may g.met.H.Host.kept (view c.loop-k.run) (view c.step.new.self) c.loop-k.host c.step.new.host
+pub unwrap-requires : goal.unwrap-requires
+unwrap-requires g c =
+    rw (unrefused g.H.Host.means g.H.Host.may g.met.H.Host.kept (view c.loop-k.run) (view c.step.new.self) c.loop-k.host c.step.new.host
     c.loop-k.frame c.step.new.frame c.step.result c.loop-k.invariant.1 (sym c.state.ensures ∙ c.in-Live.is) c.step.ensures.steps)
 
 pub loop-k-preserved : goal.loop-k-preserved
@@ -26,5 +25,5 @@ loop-k-preserved g c =
       (λ t s₀ led. stepped g.H.Host.means g.H.Host.may run run' s s' f f' c.step.result st t s₀ (c.loop-k.invariant.0 t s₀ led)),
       goes_further g.H.Host.means g.H.Host.may run run' s s' f f' c.step.result c.step.auto.frame c.loop-k.invariant.1 st,
       more c.loop-k.invariant.2 (sym c.state.ensures ∙ c.in-Live.is)
-          (subst (λ (a : Answer). Steps g.H.Host.means g.H.Host.may run s f a run' s' f') c.in-Ok.is st),
+          (subst (λ (a : Answer). Steps g.H.Host.means g.H.Host.may run s f a run' s' f') c.unwrap.ensures st),
     )

@@ -1,25 +1,27 @@
-use Rattle.std.proofs.Common.{◌≡◌, ℕ, ◌-◌, ◌/◌, List, ◌++◌, length, drop, ap, ◌∙◌, arith}
-use borrow.Rule.Slice.PartMut.{post_of}
+use Rattle.std.proofs.Common.{◌/◌, List, ℕ, ◌++◌, length, drop, ap, ◌∙◌}
 use Rattle.hosts.specs.Meaning.{marks_of}
-use Rattle.stages.specs.Check.{Checked, answered}
+use Rattle.stages.specs.Check.{Checked}
+use Rattle.stages.proofs.Exits.{passed_on}
+use Rattle.stages.proofs.Whole.{by_case}
 use Rattle.stages.proofs.checking.pass_stages.Goals as goal
 
--- what is left behind the first n entries
-rest : (n : ℕ) (xs : List ℕ) → post_of 0 (n - 0) xs ≡ drop n xs
-rest n xs = ap (λ (k : ℕ). drop k xs) (omega arith)
+pub returns-in_err-case : goal.returns-in_err-case
+returns-in_err-case g c =
+    let e = by_case (marks_of (g.H.Host.means c.args.host.now)) c.args.trusted c.args.bytes.now c.args.heights.now c.args.waiting.now _ c.in_err-case.ensures.answer in
+    record {
+      verdict = passed_on _ _ _ c.from_residual.ensures.1 (ap (λ (k : Checked). k.verdict) e);
+      heights = ap (λ (k : Checked). k.heights) e;
+      waiting = ap (λ (k : Checked). k.waiting) e;
+    }
 
 pub returns : goal.returns
 returns g c =
-    let n = length c.in_ok-parcel.parcel.code.now / 2 in
     let hs = c.args.heights.now in
     let ws = c.args.waiting.now in
-    let a = ap (answered (marks_of (g.H.Host.means c.args.host.now)) c.args.trusted hs ws) c.in_ok-parcel.ensures.answer in
-    let h = c.judge.ensures.heights in
-    let w = c.judge.ensures.waiting in
-    let rh = rest n hs in
-    let rw' = rest n ws in
+    let n = length c.in_ok-case.case.parcel.code.now / 2 in
+    let e = by_case (marks_of (g.H.Host.means c.args.host.now)) c.args.trusted c.args.bytes.now hs ws _ c.in_ok-case.ensures.answer in
     record {
-      verdict = c.judge.ensures.verdict ∙ ap (λ (k : Checked). k.verdict) a;
-      heights = (λ i. h i ++ rh i) ∙ ap (λ (k : Checked). k.heights) a;
-      waiting = (λ i. w i ++ rw' i) ∙ ap (λ (k : Checked). k.waiting) a;
+      verdict = c.judge.ensures.verdict ∙ ap (λ (k : Checked). k.verdict) e;
+      heights = ap (λ (l : List ℕ). l ++ drop n hs) c.judge.ensures.heights ∙ ap (λ (k : Checked). k.heights) e;
+      waiting = ap (λ (l : List ℕ). l ++ drop n ws) c.judge.ensures.waiting ∙ ap (λ (k : Checked). k.waiting) e;
     }

@@ -1,19 +1,16 @@
-use Rattle.std.proofs.Common.{◌≡◌, ◌+◌, length}
-use Rattle.stages.proofs.Works.{blanks, work, whole, Sofar, Visits}
+use Rattle.std.proofs.Common.{◌+◌, length}
+use Rattle.stages.specs.Examination.{examined}
+use Rattle.stages.proofs.Works.{blanks, work, Sofar, Visits}
 use Rattle.stages.proofs.heights.examine.Given as goal
 
 abbrev pub invariant-examine : goal.invariant-examine
-invariant-examine l =
-    Sofar l.code l.limit (whole l.code l.limit l.initial.heights l.initial.stack.cells.now l.initial.stack.height)
-    l.heights l.stack.cells.now l.stack.height
-    × (l.stack.cells.ghost_name ≡ l.initial.stack.cells.ghost_name)
+invariant-examine l = Sofar l.code l.limit (examined l.code l.limit l.fn.heights) l.heights l.stack.cells.now l.stack.height
 
 abbrev pub invariant-loop-to : goal.invariant-loop-to
 invariant-loop-to l =
     Visits (length l.code) l.place l.height l.to-items l.to-index
     (work l.initial.heights l.initial.stack.cells.now l.initial.stack.height) (l.initial.stack.height + blanks l.initial.heights)
     l.heights l.stack.cells.now l.stack.height
-    × (l.stack.cells.ghost_name ≡ l.initial.stack.cells.ghost_name)
 
 abbrev pub decreases-examine : goal.decreases-examine
 decreases-examine l = l.stack.height + blanks l.heights

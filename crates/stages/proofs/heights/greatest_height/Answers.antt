@@ -1,18 +1,16 @@
-use Rattle.std.proofs.Common.{ℕ, ◌+◌, max, List, drop, sym, ap, ◌∙◌, arith}
-use native.Mathlib.Nat.{max-zero}
-use Rattle.std.proofs.lemmas.List.{drop_all}
-use Rattle.stages.specs.Examination.{greatest}
-use Rattle.stages.proofs.Greatest.{greatest_more}
+use Rattle.std.proofs.Common.{unwrap_or, ap, ◌∙◌, rules, tests}
+use Rattle.std.proofs.lemmas.Iterator.{YieldsList-from_slice, YieldsList-from_map}
+use Rattle.std.proofs.lemmas.Iterator.Consumers.{reduce_from_yields_List}
+use Rattle.std.proofs.lemmas.List.Folds.{max_of_map}
+use Rattle.stages.specs.Examination.{height_of}
+use Rattle.stages.proofs.Greatest.{greatest_first}
 use Rattle.stages.proofs.heights.greatest_height.Goals as goal
-
-pub loop-h-preserved : goal.loop-h-preserved
-loop-h-preserved c =
-    let hs = c.args.heights.now in
-    let i = c.loop-h.h-index in
-    ap (λ (m : ℕ). max m (greatest (drop (i + 1) hs))) (c.max-most.ensures ∙ ap (max c.loop-h.most) c.known.ensures)
-    ∙ greatest_more hs i c.loop-h.most (omega arith) ∙ c.loop-h.invariant
 
 pub returns : goal.returns
 returns c =
-    let hs = c.args.heights.now in
-    sym (max-zero c.loop-h.most) ∙ ap (λ (l : List ℕ). max c.loop-h.most (greatest l)) (sym (drop_all c.loop-h.h-index hs (omega arith))) ∙ c.loop-h.invariant
+    let s = c.args.heights.now in
+    c.unwrap_or.ensures
+    ∙ ap (λ o. unwrap_or o 0)
+    (reduce_from_yields_List _ c.map.result _ c.max.ensures.ran (YieldsList-from_map _ height_of (YieldsList-from_slice s cc) c.map.ensures.closure (λ x b q k. search (rules, tests))))
+    ∙ max_of_map height_of s
+    ∙ greatest_first s

@@ -4,11 +4,15 @@ use Rattle.histories.proofs.Safety.{every_history_is_safe}
 use Rattle.engine.specs.View.{view}
 use Rattle.engine.proofs.runs.Run.step.Goals as goal
 
-pub returns : goal.returns
-returns g c = record {
-  steps = c.step_once.ensures;
-  on = λ s₀ rs k past held. steps past k (view c.args.self.now) (view c.step_once.new.self) held c.step_once.new.host c.args.frame.now c.step_once.new.frame c.step_once.result c.step_once.ensures;
-  off = λ run s₀ rs k past held. collects past k run held;
-  safe = every_history_is_safe g.H.Host.means g.H.Host.may g.met.H.Host.kept;
-  laws = script_laws g.H.Host.means g.H.Host.may;
-}
+pub returns-clause-on : goal.returns-clause-on
+returns-clause-on g c =
+    λ s₀ rs k past held. steps past k (view c.args.self.now) (view c.step_once.new.self) held c.step_once.new.host c.args.frame.now c.step_once.new.frame c.step_once.result c.step_once.ensures
+
+pub returns-clause-off : goal.returns-clause-off
+returns-clause-off g c = λ run s₀ rs k past held. collects past k run held
+
+pub returns-clause-safe : goal.returns-clause-safe
+returns-clause-safe g c = every_history_is_safe g.H.Host.means g.H.Host.may g.met.H.Host.kept
+
+pub returns-clause-laws : goal.returns-clause-laws
+returns-clause-laws g c = script_laws g.H.Host.means g.H.Host.may

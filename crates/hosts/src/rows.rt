@@ -1,0 +1,8 @@
+// The two rows of cells of a host.
+
+// Variables and bindings are cells alike; each has its number in its row.
+#[derive(Clone, Copy, PartialEq, Eq, Debug)]
+pub enum Row {
+    Variables,
+    Bindings,
+}

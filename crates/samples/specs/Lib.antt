@@ -1,0 +1,4 @@
+pub mod Parcels
+pub mod Sending
+pub mod Weeks
+pub mod Faults

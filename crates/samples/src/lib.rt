@@ -1,0 +1,12 @@
+// What the trials of several crates share: the bytes of parcels, a small week file, and messages.
+#![tactic(auto)]
+
+mod faults;
+mod parcels;
+mod sending;
+mod weeks;
+
+pub use faults::in_numbers;
+pub use parcels::{Entry, parcel_bytes};
+pub use sending::send_to;
+pub use weeks::{WEEK, int, over_bytes, over_file};

@@ -1,0 +1,35 @@
+// The bytes of a parcel.
+ghost use Rattle.std.specs.Prelude.{◌≡◌, length, IfOk};
+ghost use Rattle.samples.specs.Parcels.{parcel_of, two_bytes};
+
+use std::alloc::{AllocError, Global};
+
+// The six bytes of a literal, or of a cell of a week file.
+pub type Entry = [u8; 6];
+
+// The low two bytes of a number.
+fn two_bytes(n: usize) -> [u8; 2]
+    ensures { result ≡ two_bytes n }
+{
+    ((n % 0x1_0000) as u16).to_be_bytes()
+}
+
+// The bytes of a parcel of a kind, with flags, literals and code. The kind is the byte of the format: 0 is a method, 1 a block.
+pub fn parcel_bytes(
+    heap: Global,
+    kind: u8,
+    flags: u32,
+    literals: &[Entry],
+    code: &[u8],
+) -> Result<Vec<u8>, AllocError>
+    ensures { IfOk result (λ v. v.items ≡ parcel_of kind flags literals.now code.now) }
+{
+    let mut bytes = Vec::new(heap);
+    bytes.extend_from_slice(&[0, kind])?;
+    bytes.extend_from_slice(&two_bytes(literals.len()))?;
+    bytes.extend_from_slice(&flags.to_be_bytes())?;
+    bytes.extend_from_slice(&two_bytes(code.len()))?;
+    bytes.extend_from_slice(literals.as_flattened())?;
+    bytes.extend_from_slice(code)?;
+    Ok(bytes)
+}

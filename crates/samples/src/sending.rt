@@ -1,0 +1,24 @@
+// Messages in parts.
+ghost use Rattle.hosts.specs.Meaning.{Answered};
+ghost use Rattle.samples.specs.Sending.{in_parts};
+
+use hosts::{Host, Message};
+use values::Value;
+
+// Sends a host a message in parts, and gives its answer.
+pub fn send_to<H: Host>(
+    host: &mut H,
+    is_super: bool,
+    selector: u32,
+    receiver: Value,
+    arguments: &[Value],
+) -> Option<Value>
+    ensures { Answered H.Host.means H.Host.may host.old (in_parts is_super selector receiver arguments.now) result host.new }
+{
+    host.send(&Message {
+        is_super,
+        selector,
+        receiver,
+        arguments,
+    })
+}
