@@ -1,4 +1,3 @@
 pub mod Entries
 pub mod Pairs
 pub mod Tables
-pub mod Splits

@@ -31,7 +31,7 @@ pub struct Options {
     pub parcels: Vec<String>,
 }
 
-// What a word of the command line is.
+// What a word of the command line is. Two of the options await a number, which is for the next word.
 #[derive(Clone, Copy)]
 enum Word {
     Trace,

@@ -54,6 +54,7 @@ impl fmt::Display for Ran {
         match state {
             State::Live => write!(f, "live at {place} after {steps} steps"),
             State::Ended { how, value } => {
+                // The words of an ending stand here, since its crate prints nothing.
                 let how = match how {
                     Ending::Return => "return",
                     Ending::MethodReturn => "method return",
@@ -105,6 +106,7 @@ impl fmt::Display for CellText {
             trusted,
             value,
         } = *self;
+        // The words of a row stand here, since its crate prints nothing.
         let row = match row {
             Row::Variables => "variable",
             Row::Bindings => "binding",

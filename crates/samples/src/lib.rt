@@ -7,6 +7,8 @@ mod sending;
 mod weeks;
 
 pub use faults::in_numbers;
-pub use parcels::{Entry, parcel_bytes};
+pub use parcels::{
+    BINDING_0, BINDING_1, BINDING_2, BLOCK, Entry, KEYWORD, NIL, OBJECT, UNARY, parcel_bytes,
+};
 pub use sending::send_to;
 pub use weeks::{WEEK, int, over_bytes, over_file};

@@ -7,6 +7,23 @@ use std::alloc::{AllocError, Global};
 // The six bytes of a literal, or of a cell of a week file.
 pub type Entry = [u8; 6];
 
+// Literals of several kinds. The first is an open cell with nil, too.
+pub const NIL: Entry = [0, 0, 0, 0, 0, 0];
+
+pub const OBJECT: Entry = [0, 4, 0, 0, 0, 9];
+
+pub const BLOCK: Entry = [0, 5, 0, 0, 0, 9];
+
+pub const UNARY: Entry = [0, 7, 0, 0, 0, 20];
+
+pub const KEYWORD: Entry = [2, 7, 0, 0, 1, 44];
+
+pub const BINDING_0: Entry = [0, 8, 0, 0, 0, 0];
+
+pub const BINDING_1: Entry = [0, 8, 0, 0, 0, 1];
+
+pub const BINDING_2: Entry = [0, 8, 0, 0, 0, 2];
+
 // The low two bytes of a number.
 fn two_bytes(n: usize) -> [u8; 2]
     ensures { result ≡ two_bytes n }

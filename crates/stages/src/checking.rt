@@ -79,7 +79,8 @@ impl<'a, H: Host> Case<'a, H> {
 
 // The whole check of a parcel, stage after stage, over a host, which is asked only for its counts and marks. The caller says whether the
 // parcel is trusted, and lends a list of height bytes and a list of waiting places. With no fault, the answer is the greatest height. The check that is
-// offered is this function with what its answer means: in a crate of its own, so that an edit here does not prove all that again.
+// offered promises of this answer what `paths` says of it. That crate stands over this one and speaks of its definitions, so that one function for
+// both would have to offer the case and its methods to others.
 pub fn pass_stages<H: Host>(
     host: &H,
     bytes: &[u8],

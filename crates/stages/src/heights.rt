@@ -13,7 +13,7 @@ pub struct Demand {
 }
 
 // What is asked where nothing can be read. The encoding stage leaves no such place, so that an Option would have
-// every reader answer for a case that never comes.
+// the loop below answer for a case that never comes.
 const NOTHING: Demand = Demand {
     effect: Effect {
         takes: 0,

@@ -11,6 +11,7 @@ use week_file::WeekFile;
 pub type Found = Result<u8, (u8, usize)>;
 
 // The host is over a week file of four variables and two bindings, all nil, with receiver object 0; variable 3 and binding 1 are trusted.
+// Its bytes are made here once more, so that the trials do not take them from what they try.
 #[derive(Drop)]
 pub struct Bench {
     pub heap: Global,

@@ -2,23 +2,6 @@
 use samples::{Entry, parcel_bytes};
 use std::alloc::{AllocError, Global};
 
-// Literals of several kinds.
-pub const NIL: Entry = [0, 0, 0, 0, 0, 0];
-
-pub const OBJECT: Entry = [0, 4, 0, 0, 0, 9];
-
-pub const BLOCK: Entry = [0, 5, 0, 0, 0, 9];
-
-pub const UNARY: Entry = [0, 7, 0, 0, 0, 20];
-
-pub const KEYWORD: Entry = [2, 7, 0, 0, 1, 44];
-
-pub const BINDING_0: Entry = [0, 8, 0, 0, 0, 0];
-
-pub const BINDING_1: Entry = [0, 8, 0, 0, 0, 1];
-
-pub const BINDING_2: Entry = [0, 8, 0, 0, 0, 2];
-
 // The flags of a method with 4 slots, and no arguments or locals.
 pub const FOUR_SLOTS: u32 = 32;
 

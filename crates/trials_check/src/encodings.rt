@@ -1,9 +1,7 @@
 // The stage encoding.
 use crate::bench::Bench;
-use crate::drafts::{
-    BINDING_0, BINDING_1, BLOCK, KEYWORD, NIL, OBJECT, UNARY, block, with_flags, with_literals,
-};
-use samples::Entry;
+use crate::drafts::{block, with_flags, with_literals};
+use samples::{BINDING_0, BINDING_1, BLOCK, Entry, KEYWORD, NIL, OBJECT, UNARY};
 use std::test::*;
 
 // One literal of each sort that operands name.

@@ -1,6 +1,7 @@
 // The stages header and flags.
 use crate::bench::Bench;
-use crate::drafts::{BLOCK_SLOTS, NIL, block_with, repeated, with_flags, with_literals};
+use crate::drafts::{BLOCK_SLOTS, block_with, repeated, with_flags, with_literals};
+use samples::NIL;
 use std::test::*;
 
 // A code that is accepted with height 0.

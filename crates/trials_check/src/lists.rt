@@ -151,7 +151,7 @@ fn refused_by_flags(rt: HostRuntime) -> Result<(), Fail> {
     Ok(())
 }
 
-// The same for bytes of any sort, refused before the lists are used.
+// The same for bytes of any sort, refused before the lists are used: no draft has them.
 fn untouched(rt: &impl Abort, bench: &Bench, bytes: &[u8], want: Found) -> Result<(), Fail> {
     let mut heights = [7; 5];
     let mut waiting = [9; 4];

@@ -1,9 +1,7 @@
 // The stage literals.
 use crate::bench::{Bench, Found};
-use crate::drafts::{
-    BINDING_0, BINDING_1, BINDING_2, BLOCK, KEYWORD, NIL, OBJECT, UNARY, with_literals,
-};
-use samples::Entry;
+use crate::drafts::with_literals;
+use samples::{BINDING_0, BINDING_1, BINDING_2, BLOCK, Entry, KEYWORD, NIL, OBJECT, UNARY};
 use std::process::Abort;
 use std::test::*;
 

@@ -1,7 +1,8 @@
 // Every opcode and every message.
 use crate::bench::Bench;
-use crate::drafts::{KEYWORD, repeated, with_flags};
+use crate::drafts::{repeated, with_flags};
 use parcels::argument_count;
+use samples::KEYWORD;
 use std::test::*;
 
 // The opcodes above 24 that are in the table, without the extension.

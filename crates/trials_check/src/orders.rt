@@ -1,8 +1,8 @@
 // Parcels that break two rules: the earlier one is answered.
 use crate::bench::Bench;
-use crate::drafts::{BINDING_0, BINDING_2, BLOCK_SLOTS, Draft, block, with_literals};
+use crate::drafts::{BLOCK_SLOTS, Draft, block, with_literals};
 use checker::check;
-use samples::{Entry, in_numbers};
+use samples::{BINDING_0, BINDING_2, Entry, in_numbers};
 use std::test::*;
 
 #[test]

@@ -2,19 +2,13 @@
 use crate::worlds::{block_of, comes_to, method_of, method_with, returns};
 use hosts::{Host, Row};
 use parcels::Ending;
-use samples::{Entry, int, over_file};
+use samples::{BINDING_1, BLOCK, Entry, OBJECT, int, over_file};
 use scripts::{State, Stop};
 use std::test::Fail;
 use values::Value;
 
 // The selector of `-`.
 const MINUS: Entry = [1, 7, 0, 0, 0, 1];
-
-const BINDING_1: Entry = [0, 8, 0, 0, 0, 1];
-
-const OBJECT_9: Entry = [0, 4, 0, 0, 0, 9];
-
-const BLOCK_9: Entry = [0, 5, 0, 0, 0, 9];
 
 #[test]
 fn sends(rt: HostRuntime) -> Result<(), Fail> {
@@ -151,13 +145,7 @@ fn constants(rt: HostRuntime) -> Result<(), Fail> {
     returns(&rt, &mut host, &[], &[55, 3, 44, 232, 51, 0], int(1000))?;
     returns(&rt, &mut host, &[], &[45, 0, 51, 0], Value::Nil)?;
     returns(&rt, &mut host, &[], &[45, 1, 51, 0], Value::True)?;
-    returns(
-        &rt,
-        &mut host,
-        &[OBJECT_9],
-        &[46, 0, 51, 0],
-        Value::Object(9),
-    )?;
+    returns(&rt, &mut host, &[OBJECT], &[46, 0, 51, 0], Value::Object(9))?;
     returns(
         &rt,
         &mut host,
@@ -180,13 +168,13 @@ fn closures(rt: HostRuntime) -> Result<(), Fail> {
     returns(
         &rt,
         &mut host,
-        &[BLOCK_9],
+        &[BLOCK],
         &[46, 0, 49, 0, 51, 0],
         Value::Closure(9),
     )?;
     let none = State::Stopped(Stop::NoBlock);
     let code = [44, 5, 41, 2, 46, 0, 49, 0, 51, 0];
-    let bytes = method_with(rt.alloc(), &[BLOCK_9], &code)?;
+    let bytes = method_with(rt.alloc(), &[BLOCK], &code)?;
     comes_to(&rt, &mut host, &bytes, &[int(9)], none);
     Ok(())
 }

@@ -1,4 +1,4 @@
-// Runs over many steps, in turn, and with frames that are altered between them.
+// Runs over many steps, in turn, and with frames that are altered between them. Each test opens its own run, as in `refusals`.
 use crate::worlds::{make_steps, method_of, open_in, state_after};
 use engine::Run;
 use hosts::{Host, Row};

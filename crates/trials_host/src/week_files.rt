@@ -1,15 +1,13 @@
 // Week files and the host over them.
 use hosts::{Host, Row};
-use samples::{Entry, in_numbers, int, over_file, send_to};
+use samples::{Entry, NIL, in_numbers, int, over_file, send_to};
 use std::alloc::{AllocError, Global};
 use std::process::Abort;
 use std::test::Fail;
 use values::{Fault, Value};
 use week_file::{WeekFile, check_file};
 
-// Cells that hold nil, an open one and a trusted one.
-const NIL: Entry = [0, 0, 0, 0, 0, 0];
-
+// A trusted cell that holds nil.
 const TRUSTED_NIL: Entry = [1, 0, 0, 0, 0, 0];
 
 // The bytes of a week file: the first eight, then the cells.
@@ -30,7 +28,7 @@ fn why(bytes: &[u8]) -> Option<(u8, usize)> {
     missing(check_file(bytes))
 }
 
-// A fault in numbers.
+// A fault in numbers, as the trials have them; none where all is well.
 fn missing<T>(answer: Result<T, Fault>) -> Option<(u8, usize)>
 where
     T: Drop,
