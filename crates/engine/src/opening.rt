@@ -1,5 +1,5 @@
 // Empty runs, opening and collecting.
-ghost use Rattle.std.specs.Prelude.{◌≡◌, length};
+ghost use Rattle.std.specs.Prelude.{◌≡◌, length, Some, None};
 ghost use Rattle.values.specs.Order.{first, unless};
 ghost use Rattle.hosts.specs.Meaning.{marks_of};
 ghost use Rattle.parcels.specs.Parts.{parts};
@@ -52,10 +52,12 @@ impl<'a> Run<'a> {
         }
     }
 
-    // Uses the run up, and answers its state and its value, nil unless it ended.
-    pub fn collect(self) -> (State, Value)
+    // Uses the run up, and answers its state and its value, nil unless it ended. The host that it was on is asked nothing: every history of that host
+    // goes on without the run.
+    pub fn collect<H: Host>(self, host: &H) -> (State, Value)
         ensures state { result.0 ≡ (view self.entry).state }
         ensures value { result.1 ≡ value_in (view self.entry).state }
+        ensures on { CarriesOn H.means H.may host.now (view self.entry) host.now None }
     {
         match self.state {
             State::Ended { value, .. } => (self.state, value),
@@ -114,7 +116,7 @@ impl<'a> Run<'a> {
         ensures frame { frame.new ≡ (opened (H.means host.now) trusted bytes.now arguments.now frame.old heights.old waiting.old (view self.old)).frame }
         ensures heights { heights.new ≡ (checked (marks_of (H.means host.now)) trusted bytes.now heights.old waiting.old).heights }
         ensures waiting { waiting.new ≡ (checked (marks_of (H.means host.now)) trusted bytes.now heights.old waiting.old).waiting }
-        ensures on { CarriesOn H.means H.may host.now (view self.old) host.now (view self.new) }
+        ensures on { CarriesOn H.means H.may host.now (view self.old) host.now (Some (view self.new)) }
     {
         let top = check(host, bytes, trusted, heights, waiting)?;
         let Ok(parcel) = Parcel::read(bytes) else {

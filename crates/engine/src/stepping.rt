@@ -1,12 +1,12 @@
 // One step of a run.
-ghost use Rattle.std.specs.Prelude.{◌≡◌, ℕ, ◌+◌, ◌*◌, ◌≤◌, length, OnOk, Ok, if◌then◌else◌};
+ghost use Rattle.std.specs.Prelude.{◌≡◌, ℕ, ◌+◌, ◌*◌, ◌≤◌, length, OnOk, Some, Ok, if◌then◌else◌};
 ghost use Rattle.parcels.specs.Parts.{parts};
 ghost use Rattle.scripts.specs.declared.states.State.TheVariants.{Live};
 ghost use Rattle.values.specs.Order.{first, unless};
 ghost use Rattle.engine.specs.Turns.{outcome_of, NextTurn, HasTurn, GoesReady, Long, Performed, count_tests};
 ghost use Rattle.scripts.specs.Sparing.{ScriptLaws};
-ghost use Rattle.scripts.specs.Running.{Running, is_live, moved, Steps};
-ghost use Rattle.histories.specs.Histories.{CarriesOn, CarriesOff, EveryHistoryIsSafe};
+ghost use Rattle.scripts.specs.Running.{is_live, moved, Steps};
+ghost use Rattle.histories.specs.Histories.{CarriesOn, EveryHistoryIsSafe};
 ghost use Rattle.engine.specs.View.{view};
 
 use crate::runs::Run;
@@ -157,8 +157,7 @@ impl<'a> Run<'a> {
     // calls is safe.
     pub fn step<H: Host>(&mut self, host: &mut H, frame: &mut [Value]) -> Result<(), Fault>
         ensures steps { Steps H.means H.may (view self.old) host.old frame.old result (view self.new) host.new frame.new }
-        ensures on { CarriesOn H.means H.may host.old (view self.old) host.new (view self.new) }
-        ensures off { (run : Running) → CarriesOff H.means H.may host.new run }
+        ensures on { CarriesOn H.means H.may host.old (view self.old) host.new (Some (view self.new)) }
         ensures safe { EveryHistoryIsSafe H.means H.may }
         ensures laws { ScriptLaws H.means H.may }
     {

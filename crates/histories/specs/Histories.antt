@@ -76,10 +76,6 @@ module _ {S : Type 0} (means : S → Meaning) (may : S → Sent → Value → S 
   abbrev pub EveryHistoryIsSafe : Type 0
   EveryHistoryIsSafe = (s₀ s : S) (rs : Runs) (past : History s₀ s rs) → Safe s₀ s rs past
 
-  -- a call that takes the host from s to s' and one of its runs from run to run' carries every history on
-  abbrev pub CarriesOn : S → Running → S → Running → Type 0
-  CarriesOn s run s' run' = (s₀ : S) (rs : Runs) (k : ℕ) → History s₀ s rs → Holds rs k run → History s₀ s' (slice_set rs k (Some run'))
-
-  -- a call that uses a run up carries every history on
-  abbrev pub CarriesOff : S → Running → Type 0
-  CarriesOff s run = (s₀ : S) (rs : Runs) (k : ℕ) → History s₀ s rs → Holds rs k run → History s₀ s (slice_set rs k None)
+  -- a call that takes the host from s to s', and one of its runs to what is left of it, carries every history on
+  abbrev pub CarriesOn : S → Running → S → Option Running → Type 0
+  CarriesOn s run s' left = (s₀ : S) (rs : Runs) (k : ℕ) → History s₀ s rs → Holds rs k run → History s₀ s' (slice_set rs k left)

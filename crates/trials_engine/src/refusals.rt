@@ -51,7 +51,7 @@ fn empty_run(rt: HostRuntime) -> Result<(), Fail> {
     let mut run = Run::empty();
     let refused = Rule::RunNotLive.at(0);
     assert_eq!(rt; run.step(&mut host, &mut []), Err(refused));
-    let (state, value) = run.collect();
+    let (state, value) = run.collect(&host);
     assert_eq!(rt; state, EMPTY);
     assert_eq!(rt; value, Value::Nil);
     Ok(())
@@ -70,7 +70,7 @@ fn ended_run(rt: HostRuntime) -> Result<(), Fail> {
     make_steps(&mut run, &mut host, &mut frame, 2);
     let refused = Rule::RunNotLive.at(2);
     assert_eq!(rt; run.step(&mut host, &mut frame), Err(refused));
-    let (_, value) = run.collect();
+    let (_, value) = run.collect(&host);
     assert_eq!(rt; value, int(3));
     Ok(())
 }
@@ -94,7 +94,7 @@ fn step_refused(
     assert_eq!(rt; run.step(host, other), Err(rule.at(2)));
     assert_eq!(rt; run.state(), State::Live);
     make_steps(&mut run, &mut week, &mut frame, 1);
-    let (_, value) = run.collect();
+    let (_, value) = run.collect(&week);
     assert_eq!(rt; value, int(3));
     Ok(())
 }

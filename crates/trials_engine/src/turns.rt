@@ -82,7 +82,7 @@ fn altered_frame(rt: HostRuntime) -> Result<(), Fail> {
     assert_eq!(rt; frame[2], int(3));
     frame[2] = int(99);
     make_steps(&mut run, &mut host, &mut frame, 1);
-    let (_, value) = run.collect();
+    let (_, value) = run.collect(&host);
     assert_eq!(rt; value, int(99));
     Ok(())
 }
@@ -122,7 +122,7 @@ fn stopped_place(rt: HostRuntime) -> Result<(), Fail> {
     make_steps(&mut run, &mut host, &mut frame, 2);
     assert_eq!(rt; run.place(), 2);
     assert_eq!(rt; run.height(), 1);
-    let (state, value) = run.collect();
+    let (state, value) = run.collect(&host);
     assert_eq!(rt; state, State::Stopped(Stop::NotUnderstood { selector: 18 }));
     assert_eq!(rt; value, Value::Nil);
     Ok(())

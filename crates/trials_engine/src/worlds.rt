@@ -73,7 +73,7 @@ pub(crate) fn state_after(
     let mut run = Run::empty();
     let _ = open_in(&mut run, host, bytes, arguments, &mut frame);
     make_steps(&mut run, host, &mut frame, count);
-    let (state, _) = run.collect();
+    let (state, _) = run.collect(host);
     state
 }
 

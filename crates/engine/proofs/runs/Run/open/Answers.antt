@@ -23,7 +23,7 @@ begin-requires g c =
 
 -- a history goes on by an opening
 on : {S : Type 0} (means : S → Meaning) (may : S → Sent → Value → S → Type 0) (s : S) (t : Bool) (b : List ℕ) (args f : List Value) (hs ws : List ℕ) (run run' : Running)
-    → (opened (means s) t b args f hs ws run).run ≡ run' → CarriesOn means may s run s run'
+    → (opened (means s) t b args f hs ws run).run ≡ run' → CarriesOn means may s run s (Some run')
 on means may s t b args f hs ws run run' e = λ s₀ rs k past held. subst (λ (r : Running). History means may s₀ s (set rs k (Some r))) e (opens past k run held t b args f hs ws)
 
 -- what opening is

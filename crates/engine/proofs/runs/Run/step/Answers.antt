@@ -1,4 +1,4 @@
-use Rattle.histories.specs.Histories.{steps, collects}
+use Rattle.histories.specs.Histories.{steps}
 use Rattle.histories.proofs.Lawful.{script_laws}
 use Rattle.histories.proofs.Safety.{every_history_is_safe}
 use Rattle.engine.specs.View.{view}
@@ -7,9 +7,6 @@ use Rattle.engine.proofs.runs.Run.step.Goals as goal
 pub returns-clause-on : goal.returns-clause-on
 returns-clause-on g c =
     λ s₀ rs k past held. steps past k (view c.args.self.now) (view c.step_once.new.self) held c.step_once.new.host c.args.frame.now c.step_once.new.frame c.step_once.result c.step_once.ensures
-
-pub returns-clause-off : goal.returns-clause-off
-returns-clause-off g c = λ run s₀ rs k past held. collects past k run held
 
 pub returns-clause-safe : goal.returns-clause-safe
 returns-clause-safe g c = every_history_is_safe g.H.Host.means g.H.Host.may g.met.H.Host.kept
