@@ -50,7 +50,7 @@ placed : {m : Marks} {t : Bool} {run : Running} → Sound m t run → Placed run
 placed s = let r = s.ready in record { starts = starts s; reached = r.path; only = λ h path. r.heights.one path r.path; within = within r }
 
 -- the runs that are held after one of them changed
-held_length : (rs : Runs) (k : ℕ) (run : Running) → Holds rs k run → k < length rs
+pub held_length : (rs : Runs) (k : ℕ) (run : Running) → Holds rs k run → k < length rs
 held_length rs k run e = elim (cases_lt k (length rs)) [ inl l ↦ l | inr l ↦ absurd (none-some run (sym (get_or_past rs k None l) ∙ e)) ]
 
 after_set : (rs : Runs) (k : ℕ) (old : Running) (x : Option Running) (j : ℕ) (run : Running) → Holds rs k old → Holds (set rs k x) j run → ((j ≡ k) × (x ≡ Some run)) ⊎ Holds rs j run

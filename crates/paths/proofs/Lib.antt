@@ -5,4 +5,5 @@ pub mod Readings
 pub mod Orders
 pub mod Sweeping
 pub mod Walking
+mod Only
 pub mod Verdict

@@ -1,5 +1,5 @@
 -- Every verdict has its meaning.
-use Rattle.std.proofs.Common.{◌≡◌, ℕ, zero, suc, ◌+◌, ◌%◌, ◌<◌, ◌≤◌, Bool, false, List, [], length, drop, replicate, Some, None, Ok, Err, Option, Result, sym, refl, subst, inl, inr, arith}
+use Rattle.std.proofs.Common.{◌≡◌, ℕ, zero, suc, ◌+◌, ◌%◌, ◌<◌, ◌≤◌, Bool, false, List, [], length, drop, replicate, Some, None, Ok, Err, Option, Result, sym, refl, ap, ◌∙◌, subst, inl, inr, arith}
 use Rattle.std.proofs.lemmas.Bool.{cases_eq, cases_lt}
 use Rattle.values.specs.Order.{first, or_else, first_from, unless, and_then}
 use Rattle.values.specs.declared.faults.Fault.{Fault}
@@ -14,12 +14,13 @@ use Rattle.stages.specs.Encoding.{setting}
 use Rattle.stages.specs.Sweep.{length_tests, swept}
 use Rattle.stages.specs.Examination.{examined, greatest}
 use Rattle.stages.specs.Check.{pairs, list_tests, admission_fault, admitted, judged, Checked, concluded, answered, checked}
-use Rattle.paths.specs.Rules.{First, KeepsHeader, KeepsFlags, KeepsLiteral, KeepsLiterals, KeepsRules, KeepsEncoding, Meets, unread, breaks}
-use Rattle.paths.specs.Verdicts.{header, parcel, Keeps, LongEnough, HeightsAre, FirstFault, at_header, at_flags, at_literal, at_lists, at_length, at_instruction, on_path, VerdictMeans, EveryVerdictMeans}
-use Rattle.paths.proofs.Orders.{first_none, first_some, not_first, header_kept, header_silent, flags_kept, flags_silent, literal_kept, literal_silent, lists_kept, lists_silent, length_kept, length_silent, rules_silent}
+use Rattle.paths.specs.Rules.{First, KeepsHeader, KeepsFlags, KeepsLiteral, KeepsLiterals, KeepsEncoding}
+use Rattle.paths.specs.Verdicts.{header, parcel, Keeps, LongEnough, HeightsAre, FirstFault, at_header, at_flags, at_literal, at_lists, at_length, at_instruction, on_path, NoOthers, VerdictMeans, EveryVerdictMeans}
+use Rattle.paths.proofs.Orders.{first_none, first_some, not_first, header_kept, header_silent, flags_kept, flags_silent, literal_kept, literal_silent, lists_kept, lists_silent, length_kept, length_silent}
 use Rattle.paths.proofs.Sweeping.{Found, clear, stops, sweep_finds}
 use Rattle.paths.proofs.Examining.{Kept, ResultIs, fine, broken, examination_is}
 use Rattle.paths.proofs.Walking.{keeps_heights, heights_are, refutes}
+use Rattle.paths.proofs.Only.{no_others, met, one_first}
 
 -- what is found of n literals from i on
 data LiteralsAre (ls : List ℕ) (bindings i n : ℕ) : Option Fault → Type 0 where
@@ -116,11 +117,7 @@ no_fault {b = b} (at_flags kh x) k l = not_first x (flags_silent (header b) k.in
 no_fault {m = m} {b = b} (at_literal kh kf j a before x) k l = not_first x (literal_silent (parcel b).literals (length m.bindings) j (k.in_literals j a))
 no_fault {b = b} {h = h} {w = w} (at_lists kh kf kl x) k l = not_first x (lists_silent (pairs (parcel b).code) h w l.heights l.waiting)
 no_fault {b = b} (at_length kh kf kl long x) k l = not_first x (length_silent (length (parcel b).code) k.in_encoding.some k.in_encoding.even)
-no_fault {m = m} {t = t} {b = b} (at_instruction kh kf kl long pos even p s before x) k l = met x (k.in_encoding.each p s)
-  where
-    met : {f : Fault} → Meets (setting (parcel b) m t) p f → KeepsRules (setting (parcel b) m t) p → ⊥
-    met (unread e q) r = let g = r.stands.read in let z : ◌≡◌ {A = ℕ} 0 1 = cc in omega arith
-    met (breaks i rest c f read to from x) r = not_first x (rules_silent (setting (parcel b) m t) p c i rest read from r)
+no_fault {m = m} {t = t} {b = b} (at_instruction kh kf kl long pos even p s before x) k l = met (setting (parcel b) m t) p x (k.in_encoding.each p s)
 no_fault (on_path kh kf kl long ke x) k l = refutes x k.in_heights
 
 -- an answer: accepted or refused
@@ -143,13 +140,17 @@ module _ (m : Marks) (t : Bool) (b hs ws : List ℕ) where
     keeps = λ x q. (k, long);
     accepts = λ k l. (top, e);
     heights = λ x q. let same : top ≡ x = cc in subst (λ (y : ℕ). HeightsAre (parcel b).code c.heights y) same heights;
+    no_others = λ x q. let same : top ≡ x = cc in subst (λ (y : ℕ). NoOthers (parcel b).code c.heights y) same (no_others (parcel b).code c.heights top heights);
     refused = λ f q. absurd cc;
+    one_first = λ f x ne. absurd (no_fault x k long);
   }
   means c (no f e x) = record {
     keeps = λ y q. absurd cc;
     accepts = λ k l. absurd (no_fault x k l);
     heights = λ y q. absurd cc;
+    no_others = λ y q. absurd cc;
     refused = λ g q. let same : f ≡ g = cc in subst (λ (y : Fault). FirstFault m t b (length hs) (length ws) y) same x;
+    one_first = λ g y ne. e ∙ ap Err (sym (one_first m t b (length hs) (length ws) y ne x));
   }
 
 pub every_verdict_means : EveryVerdictMeans

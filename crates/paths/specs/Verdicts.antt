@@ -1,6 +1,8 @@
 -- What a verdict means.
-use Rattle.std.specs.Prelude.{◌≡◌, ℕ, ◌*◌, ◌%◌, ◌<◌, ◌≤◌, Bool, true, List, length, Ok, Err, slice_index}
+use Rattle.std.specs.Prelude.{◌≡◌, ℕ, ◌*◌, ◌%◌, ◌<◌, ◌≤◌, Bool, true, List, length, Ok, Err, ◌≢◌, slice_index}
+use Rattle.values.specs.Faults.{stage_of}
 use Rattle.values.specs.declared.faults.Fault.{Fault}
+use Rattle.values.specs.declared.faults.Stage.TheVariants.{Heights}
 use Rattle.hosts.specs.Meaning.{Marks, Meaning, marks_of}
 use Rattle.parcels.specs.Layouts.{kind_in, literal_count, flags, code_length, header_tests, flag_tests, laid_out, limit_of}
 use Rattle.parcels.specs.Literals.{literal_tests}
@@ -42,6 +44,12 @@ pub record HeightsAre (code : List ℕ) (hs : List ℕ) (top : ℕ) : Type 0 whe
   pub most : (p h : ℕ) → Path code p h → h ≤ top
   pub some : (p : ℕ) × Path code p top
 
+-- no other heights are the paths', as far as they are bytes, and no other number is the greatest
+abbrev pub NoOthers : List ℕ → List ℕ → ℕ → Type 0
+NoOthers code hs top =
+    (gs : List ℕ) (g : ℕ) → HeightsAre code gs g
+    → (g ≡ top) × ((k : ℕ) → k < pairs code → slice_index gs k ≤ 255 → slice_index gs k ≡ slice_index hs k)
+
 -- f is the first fault in the fixed order: every stage before it is kept, and it is the first row there that applies
 pub data FirstFault (m : Marks) (t : Bool) (b : List ℕ) (h w : ℕ) : Fault → Type 0 where
   at_header : {f : Fault} → First (header_tests b) f → FirstFault m t b h w f
@@ -57,12 +65,15 @@ pub data FirstFault (m : Marks) (t : Bool) (b : List ℕ) (h w : ℕ) : Fault �
   on_path : {f : Fault} → KeepsHeader b → KeepsFlags (header b) → KeepsLiterals (parcel b) (length m.bindings) → LongEnough b h w
       → KeepsEncoding (setting (parcel b) m t) → Breaks (parcel b).code (limit_of (parcel b).layout) f → FirstFault m t b h w f
 
--- what a check's answer c means: accepted exactly if every rule is kept, with the heights of the paths, and refused with the first fault
+-- what a check's answer c means: accepted exactly if every rule is kept, with the heights of the paths and no others, and refused with the first fault; before the
+-- heights, where several paths may each break a rule, no other fault is the first
 pub record VerdictMeans (m : Marks) (t : Bool) (b : List ℕ) (h w : ℕ) (c : Checked) : Type 0 where
   pub keeps : (top : ℕ) → c.verdict ≡ Ok top → Keeps m t b × LongEnough b h w
   pub accepts : Keeps m t b → LongEnough b h w → (top : ℕ) × (c.verdict ≡ Ok top)
   pub heights : (top : ℕ) → c.verdict ≡ Ok top → HeightsAre (parcel b).code c.heights top
+  pub no_others : (top : ℕ) → c.verdict ≡ Ok top → NoOthers (parcel b).code c.heights top
   pub refused : (f : Fault) → c.verdict ≡ Err f → FirstFault m t b h w f
+  pub one_first : (f : Fault) → FirstFault m t b h w f → stage_of f.rule ≢ Heights → c.verdict ≡ Err f
 
 -- every verdict has its meaning
 abbrev pub EveryVerdictMeans : Type 0

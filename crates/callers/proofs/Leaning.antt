@@ -1,0 +1,95 @@
+-- What callers rely on follows from the clauses of a step.
+use Rattle.std.proofs.Common.{◌≡◌, ℕ, ◌+◌, ◌*◌, ◌/◌, ◌≤◌, true, false, not, List, length, slice_index_or, Some, None, Ok, Err, Option, Result, sym, refl, ap, subst, arith}
+use Rattle.std.proofs.lemmas.List.{get_or-set_same}
+use Rattle.std.proofs.lemmas.Option.{none-some, same_Some}
+use Rattle.values.specs.Order.{first}
+use Rattle.values.specs.declared.faults.Fault.{Fault}
+use Rattle.values.specs.declared.kinds.Value.{Value}
+use Rattle.values.specs.declared.kinds.Value.TheVariants.{Nil}
+use Rattle.hosts.specs.Meaning.{Meaning, Sent}
+use Rattle.parcels.specs.Opcodes.{operation_of}
+use Rattle.parcels.specs.Reading.{Reading, read_at, starts_at}
+use Rattle.parcels.specs.declared.opcodes.Operation.{Operation}
+use Rattle.parcels.specs.declared.reading.Instruction.{Instruction}
+use Rattle.paths.specs.Paths.{Path}
+use Rattle.paths.proofs.Demands.{start_even}
+use Rattle.paths.proofs.Orders.{first_none}
+use Rattle.scripts.specs.Running.{Running, Answer, Stepping, Steps, step_tests, is_live, cells_of, script_for, script_read}
+use Rattle.scripts.specs.Scripts.{Runs, Within, Outcome}
+use Rattle.scripts.specs.Sparing.{ScriptLaws}
+use Rattle.scripts.specs.declared.states.State.{State}
+use Rattle.scripts.specs.declared.states.State.TheVariants.{Live, Ended, Stopped}
+use Rattle.scripts.specs.declared.states.Stop.{Stop}
+use Rattle.histories.specs.Histories.{Iff, CarriesOn, Placed, EveryHistoryIsSafe}
+use Rattle.histories.proofs.Safety.{held_length}
+use Rattle.callers.specs.Relying.{Reached, TotalsStay, MadeFor, Explained, SeenRight}
+
+live_of : (st : State) → not (is_live st) ≡ false → st ≡ Live
+live_of Live e = refl
+live_of (Ended w v) e = absurd cc
+live_of (Stopped x) e = absurd cc
+
+-- the stop in a state
+abbrev pub made_in : State → Option Stop
+made_in Live = None
+made_in (Ended w v) = None
+made_in (Stopped x) = Some x
+
+made_is : (st : State) (x : Stop) → Iff (made_in st ≡ Some x) (st ≡ Stopped x)
+made_is Live x = ((λ e. absurd (none-some x e)), (λ e. absurd cc))
+made_is (Ended w v) x = ((λ e. absurd (none-some x e)), (λ e. absurd cc))
+made_is (Stopped y) x = ((λ e. ap Stopped (same_Some _ _ e)), (λ e. ap made_in e))
+
+iff_trans : {P Q R : Type 0} → Iff P Q → Iff Q R → Iff P R
+iff_trans a b = ((λ p. b.0 (a.0 p)), (λ r. a.1 (b.1 r)))
+
+module _ {S : Type 0} (means : S → Meaning) (may : S → Sent → Value → S → Type 0) where
+  -- the next script of a run leaves the cells behind those that it stays within
+  module _ (laws : ScriptLaws means may) (run : Running) (count variables bindings : ℕ) (f f' : List Value) (s s' : S) (o : Outcome) (n : ℕ) (behind : cells_of run.parts ≤ n) where
+    beyond_for : (i : Instruction) (p : Option Operation) → Within (cells_of run.parts) count variables bindings run.parts.literals (script_for run.parts run.place run.height i p)
+        → Runs means may run.parts.literals (script_for run.parts run.place run.height i p) f s o f' s' → slice_index_or f' n Nil ≡ slice_index_or f n Nil
+    beyond_for i None w r = absurd r
+    beyond_for i (Some p) w r = laws.beyond run.parts i (run.place + 2 * i.pairs) run.height p (cells_of run.parts) count variables bindings f f' s s' o w r n behind
+
+    beyond_read : (x : Reading) → Within (cells_of run.parts) count variables bindings run.parts.literals (script_read run.parts run.place run.height x)
+        → Runs means may run.parts.literals (script_read run.parts run.place run.height x) f s o f' s' → slice_index_or f' n Nil ≡ slice_index_or f n Nil
+    beyond_read (Err e) w r = absurd r
+    beyond_read (Ok x) w r = beyond_for x.0 (operation_of x.0.opcode) w r
+
+  module _ (safe : EveryHistoryIsSafe means may) (s s' : S) (run run' : Running) where
+    placed : Reached means may s run → run.state ≡ Live → Placed run
+    placed x live = (safe x.0 s x.1 x.3).placed x.2 run x.4 live
+
+    pub totals_stay : ScriptLaws means may → (f f' : List Value) (a : Answer) → Steps means may run s f a run' s' f' → TotalsStay means may s run f f'
+    totals_stay laws f f' a st x n behind = by (first (step_tests run (means s) f)) refl st
+      where
+        by : (t : Option Fault) → first (step_tests run (means s) f) ≡ t → Stepping means may t run s f a run' s' f' → slice_index_or f' n Nil ≡ slice_index_or f n Nil
+        by (Some t) e p = ap (λ (g : List Value). slice_index_or g n Nil) p.3
+        by None e p =
+            beyond_read laws run run.parts.layout.literals run.variables run.bindings f f' s s' p.0 n behind (read_at run.parts.code run.place)
+            (placed x (live_of run.state (first_none (step_tests run (means s) f) e).0)).within p.3
+
+    -- what is seen of a run that a call led to
+    pub seen_right : CarriesOn means may s run s' (Some run') → Reached means may s run → run'.state ≡ Live → SeenRight run' (Some (record { pair = run'.place / 2; height = run'.height }))
+    seen_right on x live =
+        let held = get_or-set_same x.1 x.2 (Some run') None (held_length x.1 x.2 run x.4) in
+        let here = (safe x.0 s' _ (on x.0 x.1 x.2 x.3 x.4)).placed x.2 run' held live in
+        let even = start_even run'.parts.code run'.place here.starts in
+        let whole : 2 * (run'.place / 2) ≡ run'.place = omega (arith, even) in (
+          subst (λ (q : ℕ). starts_at run'.parts.code q ≡ true) (sym whole) here.starts,
+          subst (λ (q : ℕ). Path run'.parts.code q run'.height) (sym whole) here.reached,
+          (λ h path. here.only h (subst (λ (q : ℕ). Path run'.parts.code q h) whole path)),
+        )
+
+    module _ (f f' : List Value) (a : Answer) (st : Steps means may run s f a run' s' f') where
+      -- a refusal is none that this caller meets
+      pub not_refused : (t : Fault) → a ≡ Err t → (r : Result (Option Stop) Fault) → Explained means may s run f r
+      not_refused t e r x live long = let ok = ((safe x.0 s x.1 x.3).goes_on x.2 run x.4 live f f' a run' s' long st).unrefused in absurd cc
+
+      made_for : Reached means may s run → run.state ≡ Live → cells_of run.parts ≤ length f → MadeFor means may s run f (made_in run'.state)
+      made_for x live long =
+          let next = (safe x.0 s x.1 x.3).goes_on x.2 run x.4 live f f' a run' s' long st in
+          record { not_understood = λ n. iff_trans (made_is run'.state _) (next.not_understood n); no_block = iff_trans (made_is run'.state _) next.no_block }
+
+      pub explained : (made : Option Stop) → made ≡ made_in run'.state → Explained means may s run f (Ok made)
+      explained made e x live long = subst (λ (m : Option Stop). MadeFor means may s run f m) (sym e) (made_for x live long)

@@ -1,0 +1,37 @@
+// What a caller can rely on, by the contract of a check alone.
+ghost use Rattle.std.specs.Prelude.{◌≡◌, length, None, IfSome};
+ghost use Rattle.hosts.specs.Meaning.{marks_of};
+ghost use Rattle.paths.specs.Verdicts.{Keeps, LongEnough, FirstFault};
+ghost use Rattle.histories.specs.Histories.{Iff};
+
+use checker::check;
+use hosts::Host;
+use values::Fault;
+
+// Why a parcel is refused, if it is.
+pub fn refusal_of<H: Host>(
+    host: &H,
+    bytes: &[u8],
+    trusted: bool,
+    heights: &mut [u8],
+    waiting: &mut [u16],
+) -> Option<Fault>
+    ensures kept { Iff (result ≡ None) (Keeps (marks_of (H.means host.now)) trusted bytes.now × LongEnough bytes.now (length heights.old) (length waiting.old)) }
+    ensures first { IfSome result (FirstFault (marks_of (H.means host.now)) trusted bytes.now (length heights.old) (length waiting.old)) }
+{
+    check(host, bytes, trusted, heights, waiting).err()
+}
+
+// The height of place 0 of a parcel that is accepted, as the list has it.
+pub fn first_height<H: Host>(
+    host: &H,
+    bytes: &[u8],
+    trusted: bool,
+    heights: &mut [u8],
+    waiting: &mut [u16],
+) -> Option<u8>
+    ensures { IfSome result (λ h. h ≡ 0) }
+{
+    check(host, bytes, trusted, heights, waiting).ok()?;
+    heights.first().copied()
+}

@@ -1,0 +1,8 @@
+// Callers that rely on what the contract of a check and of a step promises, part by part, and on nothing else.
+#![tactic(auto)]
+
+mod judging;
+mod relying;
+
+pub use judging::{first_height, refusal_of};
+pub use relying::{Seen, step_and_look, step_beside_totals, step_explained};

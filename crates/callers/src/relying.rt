@@ -1,0 +1,56 @@
+// What a caller can rely on, by the contract of a step alone.
+ghost use Rattle.std.specs.Prelude.{◌≡◌, length};
+ghost use Rattle.engine.specs.View.{view};
+ghost use Rattle.callers.specs.Relying.{Reached, TotalsStay, Explained, SeenRight};
+
+use engine::Run;
+use hosts::Host;
+use scripts::{State, Stop};
+use values::{Fault, Value};
+
+// The pair of bytes at a run's place, and the run's height there.
+#[derive(Clone, Copy)]
+pub struct Seen {
+    pub pair: usize,
+    pub height: usize,
+}
+
+// Steps a run in a frame that is the first part of a sheet: behind the cells that the run counts the caller keeps totals.
+pub fn step_beside_totals<H: Host>(
+    run: &mut Run,
+    host: &mut H,
+    sheet: &mut [Value],
+) -> Result<(), Fault>
+    ensures { TotalsStay H.means H.may host.old (view run.old) sheet.old sheet.new }
+{
+    run.step(host, sheet)
+}
+
+// Steps a run and says where it is then, if it is live.
+pub fn step_and_look<H: Host>(run: &mut Run, host: &mut H, frame: &mut [Value]) -> Option<Seen>
+    ensures { Reached H.means H.may host.old (view run.old) → SeenRight (view run.new) result }
+{
+    let _ = run.step(host, frame);
+    let State::Live = run.state() else {
+        return None;
+    };
+    Some(Seen {
+        pair: run.place() / 2,
+        height: run.height(),
+    })
+}
+
+// Steps a run and says which stop it made, if it made one.
+pub fn step_explained<H: Host>(
+    run: &mut Run,
+    host: &mut H,
+    frame: &mut [Value],
+) -> Result<Option<Stop>, Fault>
+    ensures { Explained H.means H.may host.old (view run.old) frame.old result }
+{
+    run.step(host, frame)?;
+    match run.state() {
+        State::Stopped(stop) => Ok(Some(stop)),
+        State::Live | State::Ended { .. } => Ok(None),
+    }
+}
