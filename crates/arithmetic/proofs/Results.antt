@@ -10,7 +10,8 @@ use Rattle.values.specs.declared.kinds.Value.TheVariants.{Integer}
 use Rattle.values.proofs.Smalls.{small_is, small_out}
 use Rattle.hosts.specs.Meaning.{Sent}
 use Rattle.arithmetic.specs.Division.{floor_quotient, floor_remainder}
-use Rattle.arithmetic.specs.Operators.{eqZ, integer_of}
+use Rattle.values.specs.Kinds.{integer}
+use Rattle.arithmetic.specs.Operators.{eqZ}
 use Rattle.arithmetic.specs.Own.{own}
 use Rattle.arithmetic.specs.Laws.{asks, InRange, Gives, Computes, AlwaysLeft, NeverByZero}
 use Rattle.arithmetic.proofs.Divisions.{divides}
@@ -28,7 +29,7 @@ outside_by : (z : ℤ) (b : Bool) → in_range z ≡ b → (InRange z → ⊥) �
 outside_by z true e h = absurd (h (range_low z e, omega (arith, ints, range_high z e)))
 outside_by z false e h = e
 
-gives : (m : Sent) (z : ℤ) → own m ≡ integer_of z → Gives m z
+gives : (m : Sent) (z : ℤ) → own m ≡ integer z → Gives m z
 gives m z e = record {
   inside = λ h. (within z h, refl, e ∙ ap (option_map Integer) (small_is (within z h) z refl));
   outside = λ h. e ∙ ap (option_map Integer) (small_out z (outside_by z (in_range z) refl h));
@@ -50,6 +51,6 @@ always_left x y h =
 
 pub never_by_zero : NeverByZero
 never_by_zero x y e = (
-  ap (λ z. cond (eqZ z (pos 0)) None (integer_of (floor_remainder x.value z))) e,
-  ap (λ z. cond (eqZ z (pos 0)) None (integer_of (floor_quotient x.value z))) e,
+  ap (λ z. cond (eqZ z (pos 0)) None (integer (floor_remainder x.value z))) e,
+  ap (λ z. cond (eqZ z (pos 0)) None (integer (floor_quotient x.value z))) e,
 )

@@ -1,17 +1,18 @@
 -- What is true of the arithmetic, in the words of the integers.
 use Rattle.std.specs.Prelude.{◌≡◌, ℕ, ◌<◌, false, ◌≢◌, ◌⊎◌, [], ◌∷◌, map, ℤ, pos, negsuc, ◌+ℤ◌, ◌-ℤ◌, ◌*ℤ◌, ◌≤ℤ◌, ◌<ℤ◌, Some, None, unsigned_abs}
 use Rattle.std.specs.List.{ContainsAt as Has}
+use Rattle.values.specs.Kinds.{integer}
 use Rattle.values.specs.declared.small.SmallInteger.{SmallInteger}
 use Rattle.values.specs.declared.kinds.Value.{Value}
 use Rattle.values.specs.declared.kinds.Value.TheVariants.{True, False, Integer}
-use Rattle.hosts.specs.Meaning.{Sent}
+use Rattle.hosts.specs.Meaning.{Sent, message}
 use Rattle.arithmetic.specs.Division.{floor_quotient, floor_remainder}
-use Rattle.arithmetic.specs.Operators.{integer_of, table, between}
+use Rattle.arithmetic.specs.Operators.{table, between}
 use Rattle.arithmetic.specs.Own.{own}
 
 -- the message with selector s to x, with the argument y
 abbrev pub asks : ℕ → SmallInteger → SmallInteger → Sent
-asks s x y = record { super = false; selector = s; receiver = Integer x; arguments = Integer y ∷ [] }
+asks s x y = message false s (Integer x) (Integer y ∷ [])
 
 -- x divided by y is q, and r is left: r is smaller than y, and is 0 or has the sign of y
 pub record Divided (x y q r : ℤ) : Type 0 where
@@ -89,20 +90,20 @@ OnlyThese =
 
 -- some that were worked out by hand; `negsuc n` is -n - 1
 pub record Tried : Type 0 where
-  pub down : between 13 (negsuc 6) (pos 2) ≡ integer_of (negsuc 3)
-  pub down_too : between 13 (pos 7) (negsuc 1) ≡ integer_of (negsuc 3)
-  pub up_to : between 13 (negsuc 6) (negsuc 1) ≡ integer_of (pos 3)
-  pub left : between 10 (negsuc 6) (pos 2) ≡ integer_of (pos 1)
-  pub left_negative : between 10 (pos 7) (negsuc 1) ≡ integer_of (negsuc 0)
-  pub left_none : between 10 (negsuc 7) (pos 2) ≡ integer_of (pos 0)
+  pub down : between 13 (negsuc 6) (pos 2) ≡ integer (negsuc 3)
+  pub down_too : between 13 (pos 7) (negsuc 1) ≡ integer (negsuc 3)
+  pub up_to : between 13 (negsuc 6) (negsuc 1) ≡ integer (pos 3)
+  pub left : between 10 (negsuc 6) (pos 2) ≡ integer (pos 1)
+  pub left_negative : between 10 (pos 7) (negsuc 1) ≡ integer (negsuc 0)
+  pub left_none : between 10 (negsuc 7) (pos 2) ≡ integer (pos 0)
   pub least_by_minus_one : between 13 least (negsuc 0) ≡ None
-  pub least_left : between 10 least (negsuc 0) ≡ integer_of (pos 0)
-  pub product_inside : between 8 (pos 32768) (pos 32767) ≡ integer_of (pos 1073709056)
+  pub least_left : between 10 least (negsuc 0) ≡ integer (pos 0)
+  pub product_inside : between 8 (pos 32768) (pos 32767) ≡ integer (pos 1073709056)
   pub product_outside : between 8 (pos 32768) (pos 32768) ≡ None
-  pub product_least : between 8 (pos 32768) (negsuc 32767) ≡ integer_of least
-  pub sum_inside : between 0 (pos 1073741822) (pos 1) ≡ integer_of greatest
+  pub product_least : between 8 (pos 32768) (negsuc 32767) ≡ integer least
+  pub sum_inside : between 0 (pos 1073741822) (pos 1) ≡ integer greatest
   pub sum_outside : between 0 greatest (pos 1) ≡ None
-  pub difference_inside : between 1 (negsuc 1073741822) (pos 1) ≡ integer_of least
+  pub difference_inside : between 1 (negsuc 1073741822) (pos 1) ≡ integer least
   pub difference_outside : between 1 least (pos 1) ≡ None
   pub by_zero : between 13 (pos 5) (pos 0) ≡ None
   pub by_zero_left : between 10 (pos 5) (pos 0) ≡ None

@@ -1,7 +1,6 @@
 -- The operators on small integers, by their selector numbers.
 use Rattle.std.specs.Prelude.{ℕ, Bool, false, cond, not, List, [], ◌∷◌, ℤ, pos, negsuc, ◌+ℤ◌, ◌-ℤ◌, ◌*ℤ◌, Some, None, Option, ◌==◌, int_le, int_lt}
-use Rattle.values.specs.Kinds.{integer}
-use Rattle.values.specs.Kinds.{truth}
+use Rattle.values.specs.Kinds.{integer, truth}
 use Rattle.values.specs.declared.kinds.Value.{Value}
 use Rattle.arithmetic.specs.declared.operators.Operator.{Operator}
 use Rattle.arithmetic.specs.declared.operators.Operator.TheVariants.{Add, Subtract, Less, Greater, AtMost, AtLeast, Equal, Unequal, Multiply, Remainder, Quotient}
@@ -32,10 +31,6 @@ beside s (e ∷ es) = cond (s == e.0) (Some e.1) (beside s es)
 abbrev pub operator_of : ℕ → Option Operator
 operator_of s = beside s table
 
--- z as a value, if it is a small integer
-abbrev pub integer_of : ℤ → Option Value
-integer_of = integer
-
 -- whether two integers are equal
 abbrev pub eqZ : ℤ → ℤ → Bool
 eqZ (pos a) (pos b) = a == b
@@ -45,17 +40,17 @@ eqZ (negsuc a) (negsuc b) = a == b
 
 -- what an operator gives for x and y, if it gives a value
 abbrev pub applied : Operator → ℤ → ℤ → Option Value
-applied Add x y = integer_of (x +ℤ y)
-applied Subtract x y = integer_of (x -ℤ y)
+applied Add x y = integer (x +ℤ y)
+applied Subtract x y = integer (x -ℤ y)
 applied Less x y = Some (truth (int_lt x y))
 applied Greater x y = Some (truth (int_lt y x))
 applied AtMost x y = Some (truth (int_le x y))
 applied AtLeast x y = Some (truth (int_le y x))
 applied Equal x y = Some (truth (eqZ x y))
 applied Unequal x y = Some (truth (not (eqZ x y)))
-applied Multiply x y = integer_of (x *ℤ y)
-applied Remainder x y = cond (eqZ y (pos 0)) None (integer_of (floor_remainder x y))
-applied Quotient x y = cond (eqZ y (pos 0)) None (integer_of (floor_quotient x y))
+applied Multiply x y = integer (x *ℤ y)
+applied Remainder x y = cond (eqZ y (pos 0)) None (integer (floor_remainder x y))
+applied Quotient x y = cond (eqZ y (pos 0)) None (integer (floor_quotient x y))
 
 -- what an operator gives, if there is one
 abbrev pub by_operator : Option Operator → ℤ → ℤ → Option Value

@@ -6,7 +6,7 @@ use Rattle.std.proofs.lemmas.Option.{none-some, same_Some}
 use Rattle.values.specs.Order.{first}
 use Rattle.values.specs.declared.faults.Fault.{Fault}
 use Rattle.values.specs.declared.kinds.Value.{Value}
-use Rattle.hosts.specs.Meaning.{Cell, Meaning, Sent, Marks, Kept, OpenOnly, marks_of}
+use Rattle.hosts.specs.Meaning.{Cell, Meaning, Sent, Marks, Kept, OpenOnly, marks_of, marked}
 use Rattle.hosts.proofs.Cells.{kept_same}
 use Rattle.parcels.specs.Opcodes.{effect_of, after, flow_of, successors_of}
 use Rattle.parcels.specs.Reading.{starts_at}
@@ -19,7 +19,7 @@ use Rattle.paths.specs.Verdicts.{parcel, Keeps}
 use Rattle.paths.proofs.Orders.{first_none}
 use Rattle.paths.proofs.Verdict.{every_verdict_means}
 use Rattle.stages.proofs.Trust.{marks_length}
-use Rattle.scripts.specs.Laws.{marked, Like, Once, LacksBlock}
+use Rattle.scripts.specs.Laws.{Like, Once, LacksBlock}
 use Rattle.scripts.specs.Running.{Running, Answer, at, moved, Stepping, Steps, step_tests, is_live, cells_of, ground_of, next_script}
 use Rattle.scripts.specs.Scripts.{Script, script_of, Outcome, goes, ends, stops, sent_by, cell_value}
 use Rattle.scripts.specs.Scripts as scripts

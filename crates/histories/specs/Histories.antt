@@ -2,12 +2,11 @@
 use Rattle.std.specs.Prelude.{◌≡◌, ℕ, ◌+◌, ◌-◌, ◌≤◌, Bool, true, false, List, [], ◌∷◌, ◌++◌, length, is_ok, Some, None, Ok, Option, ◌≢◌, slice_index_or, slice_set}
 use Rattle.values.specs.declared.kinds.Value.{Value}
 use Rattle.values.specs.declared.kinds.Value.TheVariants.{Nil, Block}
-use Rattle.hosts.specs.Meaning.{Meaning, Sent, marks_of}
+use Rattle.hosts.specs.Meaning.{Meaning, Sent, marks_of, marked}
 use Rattle.parcels.specs.Reading.{starts_at}
 use Rattle.parcels.specs.declared.opcodes.Operation.TheVariants.{Close}
 use Rattle.parcels.specs.declared.reading.Instruction.{Instruction}
 use Rattle.paths.specs.Paths.{Path, Stands}
-use Rattle.scripts.specs.Laws.{marked}
 use Rattle.scripts.specs.Running.{Running, Answer, Steps, cells_of, base_of, next_script}
 use Rattle.scripts.specs.Scripts.{Within, sent_by, cell_value}
 use Rattle.scripts.specs.declared.states.State.TheVariants.{Live, Stopped}

@@ -3,10 +3,10 @@ use Rattle.std.specs.Prelude.{◌≡◌, ℕ, ◌/◌, ◌%◌, false, List, [],
 use Rattle.std.specs.Option.{unwrap_or}
 use Rattle.values.specs.declared.kinds.Value.{Value}
 use Rattle.values.specs.declared.kinds.Value.TheVariants.{Nil, Object}
-use Rattle.hosts.specs.Meaning.{Meaning, Sent}
+use Rattle.hosts.specs.Meaning.{Meaning, Sent, message}
 use Rattle.parcels.specs.declared.opcodes.Ending.TheVariants.{Return}
 use Rattle.scripts.specs.Running.{Running, Answer, Steps, at, next_script}
-use Rattle.scripts.specs.Scripts.{integer, message, sent_by}
+use Rattle.scripts.specs.Scripts.{integer, sent_by}
 use Rattle.scripts.specs.declared.states.State.TheVariants.{Live, Ended, Stopped}
 use Rattle.scripts.specs.declared.states.Stop.TheVariants.{NotUnderstood}
 use Rattle.histories.specs.Opening.{Opened, opened, empty}

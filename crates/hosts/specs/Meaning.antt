@@ -1,6 +1,6 @@
 -- What a host means.
-use Rattle.std.specs.Prelude.{◌≡◌, ℕ, zero, suc, Bool, true, List, [], ◌∷◌, map, None, MatchBool, Option, Result, MatchOption}
-use Rattle.std.specs.Option.{option_map, ok_or}
+use Rattle.std.specs.Prelude.{◌≡◌, ℕ, zero, suc, Bool, true, false, List, [], ◌∷◌, map, None, MatchBool, Option, Result, MatchOption}
+use Rattle.std.specs.Option.{option_map, ok_or, unwrap_or}
 use Rattle.std.specs.List.{slice_get}
 use Rattle.values.specs.Faults.{fault}
 use Rattle.values.specs.declared.kinds.Value.{Value}
@@ -20,6 +20,10 @@ pub record Sent : Type 0 where
   pub selector : ℕ
   pub receiver : Value
   pub arguments : List Value
+
+-- a message out of its parts
+abbrev pub message : Bool → ℕ → Value → List Value → Sent
+message s n r xs = record { super = s; selector = n; receiver = r; arguments = xs }
 
 -- a receiver, the two lists of cells, and the yes or no to every message
 pub record Meaning : Type 0 where
@@ -90,6 +94,10 @@ Answered means may s m r t = MatchBool ((means s).understands m) (MatchOption r 
 pub record Marks : Type 0 where
   pub variables : List Bool
   pub bindings : List Bool
+
+-- whether cell i is there and trusted
+abbrev pub marked : List Bool → ℕ → Bool
+marked ms i = unwrap_or (slice_get ms i) false
 
 -- the marks of a host
 abbrev pub marks_of : Meaning → Marks

@@ -10,8 +10,8 @@ use Rattle.paths.specs.Verdicts.{parcel}
 use Rattle.scripts.specs.Scripts.{Outcome as Way, goes, ends, stops}
 use Rattle.scripts.specs.declared.states.State.TheVariants.{Live}
 use Rattle.values.specs.declared.kinds.Value.{Value}
-use Rattle.hosts.specs.Meaning.{Meaning, Marks, Sent, Kept, marks_of}
-use Rattle.scripts.specs.Laws.{Like, marked}
+use Rattle.hosts.specs.Meaning.{Meaning, Marks, Sent, Kept, marks_of, marked}
+use Rattle.scripts.specs.Laws.{Like}
 use Rattle.scripts.specs.Running.{Running, Answer, moved, Stepping, Steps, step_tests, cells_of, next_script}
 use Rattle.scripts.proofs.Following.{like}
 use Rattle.scripts.proofs.Hosts.{like_same, like_trans}

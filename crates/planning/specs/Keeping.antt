@@ -2,8 +2,7 @@
 use Rattle.std.specs.Prelude.{◌≡◌, ℕ, ◌+◌, ◌≤◌, Bool, true, false, List, [], ◌∷◌, length, Some, IsOkAnd, Ok, Err, Result}
 use Rattle.values.specs.declared.faults.Fault.{Fault}
 use Rattle.values.specs.declared.kinds.Value.{Value}
-use Rattle.hosts.specs.Meaning.{Meaning, Sent, marks_of}
-use Rattle.scripts.specs.Laws.{marked}
+use Rattle.hosts.specs.Meaning.{Meaning, Sent, marks_of, marked}
 use Rattle.scripts.specs.Running.{Running, Steps, cells_of}
 use Rattle.scripts.specs.Scripts.{cell_value}
 use Rattle.scripts.specs.declared.states.State.TheVariants.{Live}

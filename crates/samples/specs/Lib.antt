@@ -1,4 +1,3 @@
 pub mod Parcels
-pub mod Sending
 pub mod Weeks
 pub mod Faults

@@ -1,6 +1,5 @@
 // Messages in parts.
-ghost use Rattle.hosts.specs.Meaning.{Answered};
-ghost use Rattle.samples.specs.Sending.{in_parts};
+ghost use Rattle.hosts.specs.Meaning.{Answered, message};
 
 use hosts::{Host, Message};
 use values::Value;
@@ -13,7 +12,7 @@ pub fn send_to<H: Host>(
     receiver: Value,
     arguments: &[Value],
 ) -> Option<Value>
-    ensures { Answered H.Host.means H.Host.may host.old (in_parts is_super selector receiver arguments.now) result host.new }
+    ensures { Answered H.Host.means H.Host.may host.old (message is_super selector receiver arguments.now) result host.new }
 {
     host.send(&Message {
         is_super,

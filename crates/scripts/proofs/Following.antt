@@ -2,11 +2,11 @@
 use Rattle.std.proofs.Common.{◌≡◌, ℕ, Bool, true, false, List, get_or, take, drop, set, Some, None, MatchBool, sym, refl, ap, ◌∙◌, subst, arith}
 use Rattle.values.specs.declared.kinds.Value.{Value}
 use Rattle.values.specs.declared.kinds.Value.TheVariants.{Nil}
-use Rattle.hosts.specs.Meaning.{Meaning, Sent, Marks, Kept, marks_of}
+use Rattle.hosts.specs.Meaning.{Meaning, Sent, Marks, Kept, marks_of, marked}
 use Rattle.hosts.proofs.Cells.{kept_same}
 use Rattle.parcels.specs.Literals.{literal}
 use Rattle.scripts.specs.Scripts.{Script, read_cell, read_cells, write_cell, read_literal, read_receiver, read_variable, write_variable, read_binding, write_binding, send, go, end, no_block, stuck, cell_value, Outcome, goes, stops, Runs, sent_by}
-use Rattle.scripts.specs.Laws.{Leads, Quiet, Once, LacksBlock, WritesOpen, Like, marked}
+use Rattle.scripts.specs.Laws.{Leads, Quiet, Once, LacksBlock, WritesOpen, Like}
 use Rattle.scripts.specs.declared.states.Stop.{Stop}
 use Rattle.scripts.specs.declared.states.Stop.TheVariants.{NotUnderstood, NoBlock}
 use Rattle.scripts.proofs.Hosts.{kept_like, kept_trans, like_trans, like_same, variable_like, binding_like, variable_kept, binding_kept}

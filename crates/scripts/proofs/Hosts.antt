@@ -1,9 +1,9 @@
 -- What writes and messages leave of a host.
 use Rattle.std.proofs.Common.{◌≡◌, ℕ, zero, suc, Bool, false, List, [], ◌∷◌, map, sym, refl, ap, ◌∙◌, subst, arith}
 use Rattle.values.specs.declared.kinds.Value.{Value}
-use Rattle.hosts.specs.Meaning.{Cell, Meaning, Kept, OpenOnly, marks_of, put, with_variable, with_binding}
+use Rattle.hosts.specs.Meaning.{Cell, Meaning, Kept, OpenOnly, marks_of, put, with_variable, with_binding, marked}
 use Rattle.hosts.proofs.Cells.{open_same}
-use Rattle.scripts.specs.Laws.{marked, Like}
+use Rattle.scripts.specs.Laws.{Like}
 
 -- the marks of a list of cells
 abbrev pub marks : List Cell → List Bool

@@ -1,16 +1,10 @@
 -- Properties of scripts, for every value that is read on the way.
 use Rattle.std.specs.Prelude.{◌≡◌, ℕ, Bool, false, List, take, drop, slice_index_or, slice_set}
-use Rattle.std.specs.Option.{unwrap_or}
-use Rattle.std.specs.List.{slice_get}
 use Rattle.values.specs.declared.kinds.Value.{Value}
 use Rattle.values.specs.declared.kinds.Value.TheVariants.{Nil}
-use Rattle.hosts.specs.Meaning.{Meaning, Marks, marks_of, with_variable, with_binding}
+use Rattle.hosts.specs.Meaning.{Meaning, Marks, marked, marks_of, with_variable, with_binding}
 use Rattle.parcels.specs.Literals.{literal}
 use Rattle.scripts.specs.Scripts.{Script, read_cell, read_cells, write_cell, read_literal, read_receiver, read_variable, write_variable, read_binding, write_binding, send, go, end, no_block, stuck, cell_value}
-
--- whether cell i is there and trusted
-abbrev pub marked : List Bool → ℕ → Bool
-marked ms i = unwrap_or (slice_get ms i) false
 
 module _ (literals : List ℕ) where
   module _ (P : ℕ → ℕ → Type 0) where

@@ -2,10 +2,10 @@
 use Rattle.std.specs.Prelude.{◌≡◌, ℕ, ◌+◌, ◌-◌, ◌/◌, ◌%◌, ◌<◌, ◌≤◌, Bool, false, cond, List, [], take, drop, pos, Some, None, MatchBool, Option, ◌==◌, slice_index_or, slice_set}
 use Rattle.std.specs.Option.{option_map, unwrap_or}
 use Rattle.std.specs.List.{slice_get}
-use Rattle.values.specs.Small.{small}
+use Rattle.values.specs.Kinds.{integer as small_integer}
 use Rattle.values.specs.declared.kinds.Value.{Value}
 use Rattle.values.specs.declared.kinds.Value.TheVariants.{Nil, True, False, Integer, Object, Block, Closure}
-use Rattle.hosts.specs.Meaning.{Cell, Meaning, Sent, with_variable, with_binding}
+use Rattle.hosts.specs.Meaning.{Cell, Meaning, Sent, with_variable, with_binding, message}
 use Rattle.parcels.specs.Literals.{literal}
 use Rattle.parcels.specs.Opcodes.{count_of, effect_of, after, landing_of}
 use Rattle.parcels.specs.declared.literals.Literal.{Literal}
@@ -36,10 +36,6 @@ pub data Script : Type 0 where
   end : Ending → Value → Script
   no_block : Script
   stuck : Script
-
--- a message out of its parts
-abbrev pub message : Bool → ℕ → Value → List Value → Sent
-message s n r xs = record { super = s; selector = n; receiver = r; arguments = xs }
 
 -- what is told to a value that should be true or false
 abbrev pub must_be_boolean : Value → Sent
@@ -77,7 +73,7 @@ special a = cond (a == 0) (Some Nil) (cond (a == 1) (Some True) (cond (a == 2) (
 
 -- a small integer by its number
 abbrev pub integer : ℕ → Option Value
-integer a = option_map Integer (small (pos a))
+integer a = small_integer (pos a)
 
 -- one way for true, one for false, and a third for any other value
 abbrev pub choose : {X : Type 0} → Value → X → X → X → X

@@ -1,11 +1,9 @@
 -- The encoding rules, at one instruction and at all in turn.
 use Rattle.std.specs.Prelude.{ℕ, Bool, true, false, not, ◌&&◌, List, [], ◌∷◌, length, is_some, Some, None, Option, ◌==◌}
-use Rattle.std.specs.Option.{unwrap_or}
-use Rattle.std.specs.List.{slice_get}
 use Rattle.values.specs.Order.{Test, test, first}
 use Rattle.values.specs.declared.faults.Fault.{Fault}
 use Rattle.values.specs.declared.faults.Rule.TheVariants.{OpcodeUnknown, OperandWrong, CleanBlock, StoreTrusted, ReturnForeign, LandingWrong, ClosureAlone}
-use Rattle.hosts.specs.Meaning.{Marks}
+use Rattle.hosts.specs.Meaning.{Marks, marked}
 use Rattle.parcels.specs.Literals.{literal}
 use Rattle.parcels.specs.Parts.{Parts}
 use Rattle.parcels.specs.Opcodes.{operation_of, flow_of, landing_of}
@@ -66,16 +64,12 @@ asks_self Close = false
 asks_self (End e) = false
 asks_self Line = false
 
--- whether cell i is there and trusted
-abbrev pub trusted_in : List Bool → ℕ → Bool
-trusted_in ms i = unwrap_or (slice_get ms i) false
-
 -- whether a literal names a trusted binding
 abbrev pub names_trusted : List Bool → Option Literal → Bool
 names_trusted ms None = false
 names_trusted ms (Some (Constant v)) = false
 names_trusted ms (Some (Selector n d)) = false
-names_trusted ms (Some (Binding n)) = trusted_in ms n
+names_trusted ms (Some (Binding n)) = marked ms n
 
 -- a store to a trusted variable or binding
 abbrev pub stores_trusted : Marks → List ℕ → ℕ → Operation → Bool
@@ -84,7 +78,7 @@ stores_trusted m ls a (SendSelector s) = false
 stores_trusted m ls a (Push s) = false
 stores_trusted m ls a (Store target.Cell) = false
 stores_trusted m ls a (Store target.Binding) = names_trusted m.bindings (literal ls a)
-stores_trusted m ls a (Store target.Variable) = trusted_in m.variables a
+stores_trusted m ls a (Store target.Variable) = marked m.variables a
 stores_trusted m ls a (Jump d) = false
 stores_trusted m ls a (Branch b) = false
 stores_trusted m ls a Pop = false

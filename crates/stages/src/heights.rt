@@ -53,7 +53,12 @@ pub fn greatest_height(heights: &[u8]) -> u8
 }
 
 // Examines the places that paths reach, from place 0 on. The heights are then theirs, unless there is a fault.
-pub fn examine(code: &[u8], limit: u8, heights: &mut [u8], waiting: &mut [u16]) -> Result<(), Fault>
+pub(crate) fn examine(
+    code: &[u8],
+    limit: u8,
+    heights: &mut [u8],
+    waiting: &mut [u16],
+) -> Result<(), Fault>
     requires some { 0 < length heights.old }
     requires few { length heights.old ≤ 2048 }
     requires even { length heights.old ≡ length waiting.old }

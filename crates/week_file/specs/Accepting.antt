@@ -77,18 +77,23 @@ cells_pass b o (suc n) h =
 
 -- the tests of a file, each as what it lets pass
 module _ (b : List ℕ) where
+  -- too few bytes for the counts and the receiver
   abbrev short : Bool
   short = nat_lt (length b) 8
 
+  -- too many variables
   abbrev many_variables : Bool
   many_variables = nat_lt 1024 (be16 b 0)
 
+  -- too many bindings
   abbrev many_bindings : Bool
   many_bindings = nat_lt 1024 (be16 b 2)
 
+  -- it ends with the last cell
   abbrev fitting : Bool
   fitting = length b == 8 + 6 * (be16 b 0 + be16 b 2)
 
+  -- every cell keeps its rules
   abbrev keeping : Bool
   keeping = not (is_some (first (cell_tests b 8 (be16 b 0 + be16 b 2))))
 
