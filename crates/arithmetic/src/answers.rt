@@ -7,7 +7,7 @@ use crate::operators::Operator;
 use hosts::Message;
 use values::Value;
 
-// The answer to m, if it stands between two small integers and its operator gives a value for them.
+// The answer to m, if receiver and argument are small integers and its operator gives a value for them.
 pub(crate) fn own_answer(m: &Message) -> Option<Value>
     ensures { result ≡ own (sent m.now) }
 {

@@ -27,7 +27,7 @@ impl TryFrom<u32> for Operator {
 
     ghost try_from_gives = { λ s r. r ≡ ok_or (operator_of s) (record { 0 = s }) };
 
-    // The operator that a selector number stands for.
+    // The operator that a selector number stands for; 9, 11 and 12 stand for none.
     fn try_from(selector: u32) -> Result<Operator, Unknown<u32>> {
         match selector {
             0 => Ok(Operator::Add),

@@ -4,8 +4,8 @@ ghost use Rattle.values.specs.declared.kinds.Value.TheVariants.{Nil};
 
 use values::{Stack, Value};
 
-// Pushes v onto the working cells, of which h are in use. Tried inside `push_value` too, where the proof does not learn what a stack over a part
-// of the frame leaves in that part.
+// Pushes v onto the working cells, of which h are in use. It is a function of its own since, of a stack over a part of the frame that is built and
+// used in one function, the proof does not learn what it leaves in that part.
 fn push_working(cells: &mut [Value], h: usize, v: Value) -> Result<(), Value>
     ensures said { result ≡ (if nat_lt h (length cells.old) then Ok tt else Err v) }
     ensures cells { cells.new ≡ (if is_ok result then slice_set cells.old h v else cells.old) }

@@ -172,7 +172,7 @@ impl Turn<'_> {
         value
     }
 
-    // The value that a source has.
+    // The value that a source has. That a variable or a binding is there is known where the counts are compared.
     fn value_from<H: Host>(&self, source: Source, host: &H, frame: &[Value]) -> Value
         requires is { self.now.operation ≡ Push source }
         requires long { Long (parts self.now.parcel) (length frame.now) }

@@ -56,7 +56,8 @@ impl<'a> Run<'a> {
         }
     }
 
-    // Refuses to step a live run if the host's counts are not those noted, or the frame is too short.
+    // Refuses to step a live run if the host's counts are not those noted, or the frame is too short. A run that is not live is let through, since
+    // that comes first and is refused by `perform`.
     fn check_counts<H: Host>(&self, host: &H, cells: usize) -> Result<(), Fault>
         ensures answer { result ≡ (if is_live self.now.state then unless (first (count_tests (view self.now) (H.means host.now) cells)) tt else Ok tt) }
         ensures long { OnOk result (self.now.state ≡ Live → Long (parts self.now.parcel) cells) }
@@ -75,7 +76,8 @@ impl<'a> Run<'a> {
         Ok(())
     }
 
-    // Performs the turn of a live run: the run's own state and the operation are read together, in one match that the compiler sees to be whole.
+    // Performs the turn of a live run, and refuses a run that is not live: the run's own state and the operation are read together, in one match that
+    // the compiler sees to be whole.
     fn perform<H: Host>(
         &mut self,
         next: Option<(Operation, Turn)>,

@@ -1,5 +1,5 @@
 -- A table that lists a function's values: its rule is one equation, computed over the whole table.
-use Rattle.std.proofs.Common.{◌≡◌, ℕ, zero, suc, ◌+◌, ◌<◌, ◌≤◌, ◌&&◌, eqb, leb, ltb, List, [], ◌∷◌, get_or, Some, None, Option, is_some, unwrap_or, Bor, refl, sym, ap, ◌∙◌, le_of_suc-le-suc, not-suc-le-zero, zero-add, arith}
+use Rattle.std.proofs.Common.{◌≡◌, ℕ, zero, suc, ◌+◌, ◌<◌, ◌≤◌, ◌&&◌, eqb, leb, ltb, List, [], ◌∷◌, get_or, Some, None, Option, is_some, unwrap_or, Bor, sym, ap, ◌∙◌, le_of_suc-le-suc, not-suc-le-zero, zero-add, arith}
 use Rattle.std.specs.Option.{IfSome, option_copied}
 use Rattle.std.proofs.Math.Bool.{and-false}
 use Rattle.std.proofs.lemmas.Bool.{cond-false, ne_eqb, lt-leb, ltb-true, ltb-false}

@@ -38,7 +38,7 @@ fn of_parts(detail: u8, kind: u8, number: u32) -> Option<Literal>
 }
 
 // Literal k of a parcel's literals, if there is one and it keeps the rules. The literals are bytes as they lie in the parcel, since a slice of entries
-// would ask of every caller that their bytes are a multiple of six.
+// would ask of every caller that their bytes are a multiple of six. An operand may name any number.
 pub fn literal_at(literals: &[u8], k: u32) -> Option<Literal>
     ensures { result ≡ literal literals.now k }
 {

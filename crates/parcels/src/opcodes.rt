@@ -57,7 +57,8 @@ pub enum Operation {
     Line,
 }
 
-// How many working cells an instruction takes, and how many it leaves in their place.
+// How many working cells an instruction takes, and how many it leaves in their place. A selector has up to 255 arguments as an operand states them, so
+// that up to 256 cells are taken.
 #[derive(Clone, Copy, PartialEq, Eq, Debug)]
 pub struct Effect {
     pub takes: u16,
@@ -78,7 +79,7 @@ const ARGUMENT_COUNTS: [u8; 25] = [
     1, 1, 1, 1, 1, 1, 1, 1, 1, 1, 1, 1, 1, 1, 1, 1, 1, 2, 0, 0, 0, 0, 0, 1, 1,
 ];
 
-// The argument count of a message that an opcode or the engine sends by its number.
+// The argument count of a message that an opcode or the engine sends by its number; beyond the table, as for the message to what must be Boolean, it is 0.
 pub fn argument_count(message: u8) -> u8
     ensures { result ≡ count_of message }
 {

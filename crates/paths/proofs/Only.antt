@@ -9,11 +9,11 @@ use Rattle.hosts.specs.Meaning.{Marks}
 use Rattle.parcels.specs.Layouts.{header_tests, flag_tests}
 use Rattle.parcels.specs.Literals.{literal_tests}
 use Rattle.parcels.specs.Opcodes.{operation_of}
-use Rattle.parcels.specs.Reading.{starts_at}
+use Rattle.parcels.specs.Reading.{starts_at, unreadable_rule}
 use Rattle.parcels.specs.declared.reading.Instruction.{Instruction}
 use Rattle.parcels.specs.declared.reading.Unreadable.{Unreadable}
 use Rattle.stages.specs.Encoding.{Setting, setting, site_tests}
-use Rattle.stages.specs.Sweep.{site, unreadable_rule, length_tests}
+use Rattle.stages.specs.Sweep.{site, length_tests}
 use Rattle.stages.specs.Check.{pairs, list_tests}
 use Rattle.paths.specs.Paths.{Breaks, low, over, leaves, differ}
 use Rattle.paths.specs.Rules.{First, here, later, KeepsHeader, KeepsFlags, KeepsLiteral, KeepsLiterals, AfterBlock, KeepsRules, Meets, unread, breaks}

@@ -7,7 +7,7 @@ use Rattle.parcels.specs.Layouts.{kind, literal_count, code_length, reserved_set
 use Rattle.parcels.specs.Literals.{literal}
 use Rattle.parcels.specs.Opcodes.{operation_of, flow_of}
 use Rattle.parcels.specs.Parts.{Parts}
-use Rattle.parcels.specs.Reading.{read_at, starts_at}
+use Rattle.parcels.specs.Reading.{read_at, starts_at, unreadable_rule}
 use Rattle.parcels.specs.declared.layout.Header.{Header}
 use Rattle.parcels.specs.declared.literals.Literal.{Literal}
 use Rattle.parcels.specs.declared.literals.Literal.TheVariants.{Binding}
@@ -16,7 +16,7 @@ use Rattle.parcels.specs.declared.reading.Instruction.{Instruction}
 use Rattle.parcels.specs.declared.reading.Unreadable.{Unreadable}
 use Rattle.stages.specs.Operands.{operand_wrong}
 use Rattle.stages.specs.Encoding.{Setting, clean, permits, asks_self, stores_trusted, returns_method, lands_wrong, closes, site_tests}
-use Rattle.stages.specs.Sweep.{unreadable_rule, pushes_block, site}
+use Rattle.stages.specs.Sweep.{pushes_block, site}
 use Rattle.paths.specs.Paths.{Stands}
 
 -- f is the first of the tests that applies: no earlier one does

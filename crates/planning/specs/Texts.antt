@@ -62,7 +62,7 @@ mark_text b = cond b (codes "trusted") (codes "open")
 abbrev pub cell_text : CellText → List ℕ
 cell_text t = row_text t.row ++ (codes " " ++ (decimal t.number ++ (codes ": " ++ (mark_text t.trusted ++ (codes " " ++ value_text t.value)))))
 
--- an option whose number is not there
+-- an option whose number is not there, or is none
 abbrev pub awaited_text : Awaited → List ℕ
 awaited_text Steps = codes "--steps: no count"
 awaited_text Argument = codes "--argument: no number"

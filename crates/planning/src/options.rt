@@ -163,7 +163,7 @@ impl Draft {
         Ok(())
     }
 
-    // Takes the next word: what is awaited says how. A function stored for it would only say it again.
+    // Takes the next word: what is awaited says how.
     fn take(&mut self, heap: Global, word: &str) -> anyhow::Result<()>
         ensures { OnOk result (GoesOnWith word.now self.old self.new) }
     {

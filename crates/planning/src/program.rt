@@ -34,7 +34,7 @@ fn open_week(rt: &HostRuntime, path: &str) -> anyhow::Result<Arithmetic<WeekFile
     Ok(Arithmetic::new(WeekFile::open(bytes)))
 }
 
-// Runs the parcels at these paths in turn on one host. Plan and host stay two parameters, as where one parcel is run.
+// Runs the parcels at these paths in turn on one host.
 fn run_all<H: Host>(
     rt: &HostRuntime,
     plan: &Plan,

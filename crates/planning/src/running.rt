@@ -1,5 +1,4 @@
 // One parcel on a host: the check, the opening, and steps up to a budget.
-// A struct that lends plan and host to methods is no plainer: each contract then also owes that the plan stays, and names both by longer paths.
 ghost use Rattle.std.specs.Prelude.{◌≡◌, replicate, IfOk, OnOk};
 ghost use Rattle.engine.specs.View.{view};
 ghost use Rattle.planning.specs.Frames.{cells_in, frame_of};
@@ -68,7 +67,7 @@ fn ran_for(run: &Run, steps: u64) -> Ran
     }
 }
 
-// Steps a run until it is live no more or the budget is spent. No step is refused. The number of the steps made is what is printed.
+// Steps a run until it is live no more or the budget is spent. No step is refused. The answer says how many were made.
 fn follow<H: Host>(
     rt: &impl Print,
     plan: &Plan,

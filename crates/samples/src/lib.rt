@@ -1,4 +1,4 @@
-// What the trials of several crates share: the bytes of parcels, a small week file, and messages.
+// What the trials of several crates share: the bytes of parcels, hosts over a small week file, messages, and faults in numbers.
 #![tactic(auto)]
 
 mod faults;

@@ -1,5 +1,5 @@
 -- What writes and messages leave of a host.
-use Rattle.std.proofs.Common.{◌≡◌, ℕ, zero, suc, Bool, false, List, [], ◌∷◌, map, sym, refl, ap, ◌∙◌, subst, arith}
+use Rattle.std.proofs.Common.{◌≡◌, ℕ, zero, suc, Bool, false, List, [], ◌∷◌, map, sym, refl, ap, ◌∙◌, subst}
 use Rattle.values.specs.declared.kinds.Value.{Value}
 use Rattle.hosts.specs.Meaning.{Cell, Meaning, Kept, OpenOnly, marks_of, put, with_variable, with_binding, marked}
 use Rattle.hosts.proofs.Cells.{open_same}

@@ -1,5 +1,5 @@
 -- Properties of scripts, for every value that is read on the way.
-use Rattle.std.specs.Prelude.{◌≡◌, ℕ, Bool, false, List, take, drop, slice_index_or, slice_set}
+use Rattle.std.specs.Prelude.{◌≡◌, ℕ, false, List, take, drop, slice_index_or, slice_set}
 use Rattle.values.specs.declared.kinds.Value.{Value}
 use Rattle.values.specs.declared.kinds.Value.TheVariants.{Nil}
 use Rattle.hosts.specs.Meaning.{Meaning, Marks, marked, marks_of, with_variable, with_binding}

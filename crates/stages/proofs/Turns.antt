@@ -5,11 +5,11 @@ use Rattle.std.specs.Result.{MatchResult}
 use Rattle.values.specs.Faults.{fault}
 use Rattle.values.specs.Order.{or_else, unless, and_then}
 use Rattle.values.specs.declared.faults.Fault.{Fault}
-use Rattle.parcels.specs.Reading.{Reading, read_at}
+use Rattle.parcels.specs.Reading.{Reading, read_at, unreadable_rule}
 use Rattle.parcels.specs.declared.reading.Instruction.{Instruction}
 use Rattle.parcels.specs.declared.reading.Unreadable.{Unreadable}
 use Rattle.stages.specs.Encoding.{Setting, site_fault}
-use Rattle.stages.specs.Sweep.{unreadable_rule, pushes_block, site, turned, swept}
+use Rattle.stages.specs.Sweep.{pushes_block, site, turned, swept}
 
 -- what is left to find from p on, in at most n instructions
 abbrev left : Setting → ℕ → Bool → ℕ → Result (Unit {0}) Fault

@@ -5,8 +5,7 @@ use Rattle.values.specs.Order.{Test, test, first, or_else}
 use Rattle.values.specs.declared.faults.Fault.{Fault}
 use Rattle.values.specs.declared.faults.Rule.TheVariants.{CodeCut}
 use Rattle.parcels.specs.Literals.{literal}
-use Rattle.parcels.specs.Reading.{Reading, read_at}
-pub use Rattle.parcels.specs.Reading.{unreadable_rule}
+use Rattle.parcels.specs.Reading.{Reading, read_at, unreadable_rule}
 use Rattle.parcels.specs.Opcodes.{operation_of}
 use Rattle.parcels.specs.declared.reading.Instruction.{Instruction}
 use Rattle.parcels.specs.declared.opcodes.Source.TheVariants as source

@@ -12,16 +12,17 @@ use parcels::{Parcel, check_literals};
 use values::{Fault, Rule};
 
 impl<'a, H: Host> Case<'a, H> {
-    // The case of a parcel's bytes, or the first fault of the stages header, flags, literals and lists, over lists of so many entries.
+    // The case of a parcel's bytes, or the first fault of the stages header, flags, literals and lists, over a list of height bytes and a
+    // list of waiting places with so many entries.
     fn admit(
         host: &'a H,
         bytes: &'a [u8],
         trusted: bool,
-        heights: usize,
-        waiting: usize,
+        height_entries: usize,
+        waiting_entries: usize,
     ) -> Result<Case<'a, H>, Fault>
-        ensures answer { seen H.means result ≡ case_of (marks_of (H.means host.now)) trusted bytes.now heights waiting }
-        ensures fits { IfOk result (λ c. (pairs c.parcel.code.now ≤ heights) × (pairs c.parcel.code.now ≤ waiting)) }
+        ensures answer { seen H.means result ≡ case_of (marks_of (H.means host.now)) trusted bytes.now height_entries waiting_entries }
+        ensures fits { IfOk result (λ c. (pairs c.parcel.code.now ≤ height_entries) × (pairs c.parcel.code.now ≤ waiting_entries)) }
     {
         let parcel = Parcel::read(bytes)?;
         check_literals(
@@ -30,7 +31,7 @@ impl<'a, H: Host> Case<'a, H> {
             host.count(Row::Bindings),
         )?;
         let pairs = parcel.code.len() / 2;
-        if heights < pairs || waiting < pairs {
+        if height_entries < pairs || waiting_entries < pairs {
             return Err(Rule::ListShort.at(0));
         }
         Ok(Case {
@@ -56,8 +57,8 @@ impl<'a, H: Host> Case<'a, H> {
         )
     }
 
-    // The stages encoding and heights, over lists with just one entry for every pair. The lists stay two parameters: a struct of both
-    // would have each of three functions promise that its two fields keep their references, and would state one fact less.
+    // The stages encoding and heights, over lists with just one entry for every pair. The lists stay two parameters: with a struct
+    // of both, `check_code`, `examine` and this function would each have to promise as well that its two fields keep their references.
     fn judge(&self, heights: &mut [u8], waiting: &mut [u16]) -> Result<u8, Fault>
         requires heights { length heights.old ≡ pairs self.now.parcel.code.now }
         requires waiting { length waiting.old ≡ pairs self.now.parcel.code.now }
@@ -78,9 +79,8 @@ impl<'a, H: Host> Case<'a, H> {
 }
 
 // The whole check of a parcel, stage after stage, over a host, which is asked only for its counts and marks. The caller says whether the
-// parcel is trusted, and lends a list of height bytes and a list of waiting places. With no fault, the answer is the greatest height. The check that is
-// offered promises of this answer what `paths` says of it. That crate stands over this one and speaks of its definitions, so that one function for
-// both would have to offer the case and its methods to others.
+// parcel is trusted, and lends a list of height bytes and a list of waiting places. With no fault, the answer is the greatest height. The
+// public call is `checker::check`, which passes this answer on and adds what it means. That is said in terms of `paths`, a crate above this one.
 pub fn pass_stages<H: Host>(
     host: &H,
     bytes: &[u8],

@@ -23,7 +23,7 @@ pub struct Site {
     pub after_block: bool,
 }
 
-// The chain use of a clean block. Any chain use is a number that the flags may hold; this one and the next have a meaning to the check.
+// The chain use of a clean block. A chain use is any number that the flags hold; only this one and 31 have a meaning to the check.
 const CLEAN: u8 = 0;
 
 // The chain use that permits a method return.

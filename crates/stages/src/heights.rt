@@ -88,7 +88,7 @@ pub(crate) fn examine(
             break Err(Rule::HeightOver.at(place));
         }
         let height = after as u8;
-        // Tried over `demand.to.into_iter().flatten()`: the invariant then follows the adapter's state in place of an index, and the proof was not closed.
+        // By index, since the invariant speaks of the successors that are left; an adapter such as `flatten` would hide which they are.
         for to in demand.to {
             if let Some(s) = to {
                 if s >= code.len() {

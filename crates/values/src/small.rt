@@ -1,4 +1,5 @@
-// A small integer: 31 bits, signed. The functions that make one stand in `making`: the definitions that their contracts name are about this struct.
+// A small integer: 31 bits, signed. The functions that make one stand in `making`, a file of its own: their contracts name definitions about this
+// struct, and a file cannot bring in what is said of a struct that stands in it.
 ghost use Rattle.std.specs.Prelude.{pos, negsuc, ◌≤ℤ◌, ◌<ℤ◌};
 
 mod making;

@@ -1,4 +1,4 @@
-// One cell of a week file: a mark byte, a kind byte and a number field of four bytes.
+// One cell of a week file: a mark byte, a kind byte and a number field of four bytes, the most significant one first.
 ghost use Rattle.std.specs.Prelude.{◌≡◌, ◌+◌, ◌≤◌, length};
 ghost use Rattle.week_file.specs.Cells.{raw_at, trusted_by, stored, breaks_rules, written};
 

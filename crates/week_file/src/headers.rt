@@ -1,4 +1,4 @@
-// The first eight bytes of a week file.
+// The first eight bytes of a week file, and where they say that rows and cells begin. In each number the most significant byte comes first.
 ghost use Rattle.std.specs.Prelude.{◌≡◌, ◌<◌, length, if◌then◌else◌, Some, None, nat_lt};
 ghost use Rattle.week_file.specs.Headers.{header_of, header_count, header_start};
 ghost use Rattle.week_file.specs.Files.{place_in};

@@ -6,13 +6,15 @@ ghost use Rattle.week_file.specs.Replies.{replies};
 use hosts::Message;
 use values::Value;
 
-// Whether the receiver is nil. The four are constants and no enum, since a number has a meaning only with the right count of arguments.
+// The selectors that a week file understands. They are constants and no enum, since a number has a meaning only with the right count of arguments.
+
+// Whether the receiver is nil.
 const IS_NIL: u32 = 20;
 
-// Whether it is anything else.
+// Whether the receiver is anything but nil.
 const NOT_NIL: u32 = 21;
 
-// Whether it is the same as the argument.
+// Whether the receiver is the same as the argument.
 const SAME: u32 = 24;
 
 // Nil, whatever the receiver is.
