@@ -1,5 +1,5 @@
 -- What callers of a step can rely on.
-use Rattle.std.specs.Prelude.{◌≡◌, ℕ, ◌*◌, ◌≤◌, true, false, List, length, Some, None, IsOkAnd, Option, Result, slice_index_or}
+use Rattle.std.specs.Prelude.{◌≡◌, ℕ, ◌*◌, ◌≤◌, true, false, List, length, Some, None, IsOkAnd, Option, Result, ◌≢◌, slice_index_or}
 use Rattle.values.specs.declared.faults.Fault.{Fault}
 use Rattle.values.specs.declared.kinds.Value.{Value}
 use Rattle.values.specs.declared.kinds.Value.TheVariants.{Nil}
@@ -14,9 +14,9 @@ use Rattle.scripts.specs.declared.states.Stop.TheVariants.{NotUnderstood, NoBloc
 use Rattle.histories.specs.Histories.{Runs, Holds, Iff, History, MeetsNoBlock}
 use Rattle.callers.specs.declared.relying.Seen.{Seen}
 
--- what a caller sees of a live run is the only height of the paths to its place, where an instruction starts
+-- what a caller sees of a live run is the only height of the paths to its place, where an instruction starts; it sees nothing of another
 abbrev pub SeenRight : Running → Option Seen → Type 0
-SeenRight run None = Unit {0}
+SeenRight run None = run.state ≢ Live
 SeenRight run (Some x) =
     (starts_at run.parts.code (2 * x.pair) ≡ true)
     × Path run.parts.code (2 * x.pair) x.height

@@ -1,5 +1,6 @@
 // What a caller can rely on, by the contract of a step alone.
 ghost use Rattle.std.specs.Prelude.{◌≡◌, length};
+ghost use Rattle.scripts.specs.Running.{Answer, Steps};
 ghost use Rattle.engine.specs.View.{view};
 ghost use Rattle.callers.specs.Relying.{Reached, TotalsStay, Explained, SeenRight};
 
@@ -21,14 +22,16 @@ pub fn step_beside_totals<H: Host>(
     host: &mut H,
     sheet: &mut [Value],
 ) -> Result<(), Fault>
-    ensures { TotalsStay H.means H.may host.old (view run.old) sheet.old sheet.new }
+    ensures steps { Steps H.means H.may (view run.old) host.old sheet.old result (view run.new) host.new sheet.new }
+    ensures totals { TotalsStay H.means H.may host.old (view run.old) sheet.old sheet.new }
 {
     run.step(host, sheet)
 }
 
 // Steps a run and says where it is then, if it is live.
 pub fn step_and_look<H: Host>(run: &mut Run, host: &mut H, frame: &mut [Value]) -> Option<Seen>
-    ensures { Reached H.means H.may host.old (view run.old) → SeenRight (view run.new) result }
+    ensures stepped { (a : Answer) × Steps H.means H.may (view run.old) host.old frame.old a (view run.new) host.new frame.new }
+    ensures seen { Reached H.means H.may host.old (view run.old) → SeenRight (view run.new) result }
 {
     let _ = run.step(host, frame);
     let State::Live = run.state() else {
