@@ -2,7 +2,9 @@
 ghost use Rattle.std.specs.Prelude.{◌≡◌, length, None, IfSome};
 ghost use Rattle.hosts.specs.Meaning.{marks_of};
 ghost use Rattle.paths.specs.Verdicts.{Keeps, LongEnough, FirstFault};
+ghost use Rattle.stages.specs.Check.{checked};
 ghost use Rattle.histories.specs.Histories.{Iff};
+ghost use Rattle.callers.specs.Relying.{height_of_start};
 
 use checker::check;
 use hosts::Host;
@@ -30,7 +32,7 @@ pub fn first_height<H: Host>(
     heights: &mut [u8],
     waiting: &mut [u16],
 ) -> Option<u8>
-    ensures { IfSome result (λ h. h ≡ 0) }
+    ensures { result ≡ height_of_start (checked (marks_of (H.means host.now)) trusted bytes.now heights.old waiting.old).verdict }
 {
     check(host, bytes, trusted, heights, waiting).ok()?;
     heights.first().copied()
