@@ -11,17 +11,17 @@ use Rattle.parcels.specs.Opcodes.{operation_of}
 use Rattle.parcels.specs.Reading.{Reading, read_at, starts_at}
 use Rattle.parcels.specs.declared.opcodes.Operation.{Operation}
 use Rattle.parcels.specs.declared.reading.Instruction.{Instruction}
-use Rattle.paths.specs.Paths.{Path}
-use Rattle.paths.proofs.Demands.{start_even}
-use Rattle.paths.proofs.Orders.{first_none}
-use Rattle.scripts.specs.Running.{Running, Answer, Stepping, Steps, step_tests, is_live, cells_of, script_for, script_read}
-use Rattle.scripts.specs.Scripts.{Runs, Within, Outcome}
-use Rattle.scripts.specs.Sparing.{ScriptLaws}
-use Rattle.scripts.specs.declared.states.State.{State}
-use Rattle.scripts.specs.declared.states.State.TheVariants.{Live, Ended, Stopped}
-use Rattle.scripts.specs.declared.states.Stop.{Stop}
-use Rattle.histories.specs.Histories.{Iff, CarriesOn, Placed, EveryHistoryIsSafe}
-use Rattle.histories.proofs.Safety.{held_length}
+use Rattle.soundness.specs.Paths.{Path}
+use Rattle.soundness.proofs.Transfers.{start_even}
+use Rattle.soundness.proofs.Orders.{first_none}
+use Rattle.semantics.specs.RunView.{RunView, Answer, Stepping, Steps, step_tests, is_live, cells_of, script_for, script_read}
+use Rattle.semantics.specs.Scripts.{Runs, Within, Outcome}
+use Rattle.semantics.specs.Sparing.{ScriptLaws}
+use Rattle.semantics.specs.declared.states.State.{State}
+use Rattle.semantics.specs.declared.states.State.TheVariants.{Live, Ended, Stopped}
+use Rattle.semantics.specs.declared.states.Stop.{Stop}
+use Rattle.safety.specs.Histories.{Iff, ExtendsHistory, WellPlaced, EveryHistoryIsSafe}
+use Rattle.safety.proofs.Safety.{held_length}
 use Rattle.callers.specs.Relying.{Reached, TotalsStay, MadeFor, Explained, SeenRight}
 
 live_of : (st : State) → not (is_live st) ≡ false → st ≡ Live
@@ -45,7 +45,7 @@ iff_trans a b = ((λ p. b.0 (a.0 p)), (λ r. a.1 (b.1 r)))
 
 module _ {S : Type 0} (means : S → Meaning) (may : S → Sent → Value → S → Type 0) where
   -- the next script of a run leaves the cells behind those that it stays within
-  module _ (laws : ScriptLaws means may) (run : Running) (count variables bindings : ℕ) (f f' : List Value) (s s' : S) (o : Outcome) (n : ℕ) (behind : cells_of run.parts ≤ n) where
+  module _ (laws : ScriptLaws means may) (run : RunView) (count variables bindings : ℕ) (f f' : List Value) (s s' : S) (o : Outcome) (n : ℕ) (behind : cells_of run.parts ≤ n) where
     beyond_for : (i : Instruction) (p : Option Operation) → Within (cells_of run.parts) count variables bindings run.parts.literals (script_for run.parts run.place run.height i p)
         → Runs means may run.parts.literals (script_for run.parts run.place run.height i p) f s o f' s' → slice_index_or f' n Nil ≡ slice_index_or f n Nil
     beyond_for i None w r = absurd r
@@ -56,8 +56,8 @@ module _ {S : Type 0} (means : S → Meaning) (may : S → Sent → Value → S 
     beyond_read (Err e) w r = absurd r
     beyond_read (Ok x) w r = beyond_for x.0 (operation_of x.0.opcode) w r
 
-  module _ (safe : EveryHistoryIsSafe means may) (s s' : S) (run run' : Running) where
-    placed : Reached means may s run → run.state ≡ Live → Placed run
+  module _ (safe : EveryHistoryIsSafe means may) (s s' : S) (run run' : RunView) where
+    placed : Reached means may s run → run.state ≡ Live → WellPlaced run
     placed x live = (safe x.0 s x.1 x.3).placed x.2 run x.4 live
 
     pub totals_stay : ScriptLaws means may → (f f' : List Value) (a : Answer) → Steps means may run s f a run' s' f' → TotalsStay means may s run f f'
@@ -66,11 +66,11 @@ module _ {S : Type 0} (means : S → Meaning) (may : S → Sent → Value → S 
         by : (t : Option Fault) → first (step_tests run (means s) f) ≡ t → Stepping means may t run s f a run' s' f' → slice_index_or f' n Nil ≡ slice_index_or f n Nil
         by (Some t) e p = ap (λ (g : List Value). slice_index_or g n Nil) p.3
         by None e p =
-            beyond_read laws run run.parts.layout.literals run.variables run.bindings f f' s s' p.0 n behind (read_at run.parts.code run.place)
+            beyond_read laws run run.parts.layout.literal_count run.variables run.bindings f f' s s' p.0 n behind (read_at run.parts.code run.place)
             (placed x (live_of run.state (first_none (step_tests run (means s) f) e).0)).within p.3
 
     -- what is seen of a run that a call led to
-    pub seen_right : CarriesOn means may s run s' (Some run') → Reached means may s run → run'.state ≡ Live → SeenRight run' (Some (record { pair = run'.place / 2; height = run'.height }))
+    pub seen_right : ExtendsHistory means may s run s' (Some run') → Reached means may s run → run'.state ≡ Live → SeenRight run' (Some (record { pair = run'.place / 2; height = run'.height }))
     seen_right on x live =
         let held = get_or-set_same x.1 x.2 (Some run') None (held_length x.1 x.2 run x.4) in
         let here = (safe x.0 s' _ (on x.0 x.1 x.2 x.3 x.4)).placed x.2 run' held live in

@@ -5,8 +5,8 @@ use Rattle.std.specs.Result.{result_ok}
 use Rattle.values.specs.declared.faults.Fault.{Fault}
 use Rattle.hosts.specs.Meaning.{Marks}
 use Rattle.stages.specs.Check.{pairs, Checked}
-use Rattle.paths.specs.Paths.{begins}
-use Rattle.paths.specs.Verdicts.{parcel, VerdictMeans}
+use Rattle.soundness.specs.Paths.{begins}
+use Rattle.soundness.specs.Verdicts.{parcel, VerdictMeans}
 use Rattle.callers.specs.Relying.{height_of_start}
 
 -- the first entry of a list that has 0 there

@@ -1,9 +1,9 @@
 // What a caller can rely on, by the contract of a check alone.
 ghost use Rattle.std.specs.Prelude.{◌≡◌, length, None, IfSome};
 ghost use Rattle.hosts.specs.Meaning.{marks_of};
-ghost use Rattle.paths.specs.Verdicts.{Keeps, LongEnough, FirstFault};
+ghost use Rattle.soundness.specs.Verdicts.{IsValid, ListsSuffice, FirstFault};
 ghost use Rattle.stages.specs.Check.{checked};
-ghost use Rattle.histories.specs.Histories.{Iff};
+ghost use Rattle.safety.specs.Histories.{Iff};
 ghost use Rattle.callers.specs.Relying.{height_of_start};
 
 use checker::check;
@@ -18,7 +18,7 @@ pub fn refusal_of<H: Host>(
     heights: &mut [u8],
     waiting: &mut [u16],
 ) -> Option<Fault>
-    ensures kept { Iff (result ≡ None) (Keeps (marks_of (H.means host.now)) trusted bytes.now × LongEnough bytes.now (length heights.old) (length waiting.old)) }
+    ensures kept { Iff (result ≡ None) (IsValid (marks_of (H.means host.now)) trusted bytes.now × ListsSuffice bytes.now (length heights.old) (length waiting.old)) }
     ensures first { IfSome result (FirstFault (marks_of (H.means host.now)) trusted bytes.now (length heights.old) (length waiting.old)) }
 {
     check(host, bytes, trusted, heights, waiting).err()

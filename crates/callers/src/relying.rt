@@ -1,12 +1,12 @@
 // What a caller can rely on, by the contract of a step alone.
 ghost use Rattle.std.specs.Prelude.{◌≡◌, length};
-ghost use Rattle.scripts.specs.Running.{Answer, Steps};
+ghost use Rattle.semantics.specs.RunView.{Answer, Steps};
 ghost use Rattle.engine.specs.View.{view};
 ghost use Rattle.callers.specs.Relying.{Reached, TotalsStay, Explained, SeenRight};
 
 use engine::Run;
 use hosts::Host;
-use scripts::{State, Stop};
+use semantics::{State, Stop};
 use values::{Fault, Value};
 
 // The pair of bytes at a run's place, and the run's height there.

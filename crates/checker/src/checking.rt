@@ -2,7 +2,7 @@
 ghost use Rattle.std.specs.Prelude.{◌≡◌, length};
 ghost use Rattle.hosts.specs.Meaning.{marks_of};
 ghost use Rattle.stages.specs.Check.{checked};
-ghost use Rattle.paths.specs.Verdicts.{VerdictMeans, KindsAreNotJudged};
+ghost use Rattle.soundness.specs.Verdicts.{VerdictMeans, KindsAreNotJudged};
 
 use hosts::Host;
 use stages::pass_stages;

@@ -8,14 +8,14 @@ use Rattle.parcels.specs.Layouts.{header_tests, flag_tests, flagged, laid_out}
 use Rattle.parcels.specs.Parts.{Parts, split, parts_of}
 use Rattle.stages.specs.Check.{checked}
 use Rattle.stages.proofs.Trust.{marks_length}
-use Rattle.paths.specs.Verdicts.{header, parcel, Keeps}
-use Rattle.paths.proofs.Orders.{Silent, header_silent, flags_silent}
-use Rattle.paths.proofs.Verdict.{every_verdict_means}
+use Rattle.soundness.specs.Verdicts.{header, parcel, IsValid}
+use Rattle.soundness.proofs.Orders.{Silent, header_silent, flags_silent}
+use Rattle.soundness.proofs.Verdict.{every_verdict_means}
 use Rattle.values.specs.declared.kinds.Value.{Value}
-use Rattle.scripts.specs.Running.{Running, Answer}
-use Rattle.histories.specs.Opening.{Opened, open_tests, begun, laid, admitted, judged, opened}
-use Rattle.histories.specs.Ready.{Ready}
-use Rattle.histories.proofs.Readiness.{accepted_ready}
+use Rattle.semantics.specs.RunView.{RunView, Answer}
+use Rattle.safety.specs.Opening.{Opened, open_tests, begun, laid, admitted, judged, opened}
+use Rattle.safety.specs.Ready.{Ready}
+use Rattle.safety.proofs.Readiness.{accepted_ready}
 use Rattle.engine.specs.Turns.{if_ok}
 
 silent_none : (ts : List Test) → Silent ts → first ts ≡ None
@@ -29,15 +29,15 @@ parts_are b e f =
     ∙ ap (λ (o : Option Fault). and_then (unless o (laid_out (header b))) (λ l. Ok (split b l))) f
 
 -- opening, by what beginning answers
-abbrev pub opened_by : Answer → ℕ → Parts → Meaning → List Value → List Value → Running → Opened
+abbrev pub opened_by : Answer → ℕ → Parts → Meaning → List Value → List Value → RunView → Opened
 opened_by r top p m args f run = record { answer = and_then r (λ _. Ok top); run = if_ok r (begun p m) run; frame = if_ok r (laid p args f) f }
 
-by_tests : (o : Option Fault) (top : ℕ) (p : Parts) (m : Meaning) (args f : List Value) (run : Running) → opened_by (unless o tt) top p m args f run ≡ admitted o top p m args f run
+by_tests : (o : Option Fault) (top : ℕ) (p : Parts) (m : Meaning) (args f : List Value) (run : RunView) → opened_by (unless o tt) top p m args f run ≡ admitted o top p m args f run
 by_tests None top p m args f run = refl
 by_tests (Some x) top p m args f run = refl
 
 module _ (m : Meaning) (t : Bool) (b hs ws : List ℕ) (top : ℕ) (e : Ok top ≡ (checked (marks_of m) t b hs ws).verdict) where
-  keeps : Keeps (marks_of m) t b
+  keeps : IsValid (marks_of m) t b
   keeps = ((every_verdict_means (marks_of m) t b hs ws).keeps top (sym e)).0
 
   pub accepted_parts : parts_of b ≡ Ok (parcel b)
@@ -53,7 +53,7 @@ module _ (m : Meaning) (t : Bool) (b hs ws : List ℕ) (top : ℕ) (e : Ok top �
   same_parts p q = let r = q ∙ accepted_parts in cc
 
   -- opening, once the check accepts, by what beginning answers
-  pub opened_is : (args f : List Value) (run : Running) (r : Answer) (p : Parts) → Ok p ≡ parts_of b → r ≡ unless (first (open_tests p args f)) tt → opened_by r top p m args f run ≡ opened m t b args f hs ws run
+  pub opened_is : (args f : List Value) (run : RunView) (r : Answer) (p : Parts) → Ok p ≡ parts_of b → r ≡ unless (first (open_tests p args f)) tt → opened_by r top p m args f run ≡ opened m t b args f hs ws run
   opened_is args f run r p q x =
       let s = same_parts p q in
       ap (λ (y : Answer). opened_by y top p m args f run) x

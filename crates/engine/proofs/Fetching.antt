@@ -15,10 +15,10 @@ use Rattle.parcels.specs.declared.reading.Instruction.{Instruction}
 use Rattle.parcels.specs.declared.reading.Unreadable.{Unreadable}
 use Rattle.stages.specs.Encoding.{lands_wrong}
 use Rattle.stages.specs.Operands.{operand_wrong}
-use Rattle.paths.specs.Paths.{Stands, Among, successors}
-use Rattle.paths.proofs.Orders.{same_read}
-use Rattle.histories.specs.Ready.{Ready}
-use Rattle.histories.proofs.Readiness.{here, path_low, ready_on}
+use Rattle.soundness.specs.Paths.{InstructionAt, Among, successors}
+use Rattle.soundness.proofs.Orders.{same_read}
+use Rattle.safety.specs.Ready.{Ready}
+use Rattle.safety.proofs.Readiness.{here, path_low, ready_on}
 
 module _ {p : Parts} {v b place h : ℕ} (t : ∥ Ready p v b place h ∥₁) where
   pub readable : (e : Unreadable) → read_at p.code place ≡ Err e → ⊥
@@ -34,7 +34,7 @@ module _ {p : Parts} {v b place h : ℕ} (t : ∥ Ready p v b place h ∥₁) wh
       let e : Some (here r).operation ≡ None = sym (here r).stands.known ∙ ap (λ (j : Instruction). operation_of j.opcode) (same r i rest q) ∙ n in
       let z : ◌≡◌ {A = ℕ} 0 1 = cc in omega arith)
 
-  module _ {i : Instruction} {o : Operation} (s : Stands p.code place i o) where
+  module _ {i : Instruction} {o : Operation} (s : InstructionAt p.code place i o) where
     does : (r : Ready p v b place h) → (here r).operation ≡ o
     does r = same_Some _ _ (sym (here r).stands.known ∙ ap (λ (j : Instruction). operation_of j.opcode) (same r i s.rest s.read) ∙ s.known)
 
@@ -47,7 +47,7 @@ module _ {p : Parts} {v b place h : ℕ} (t : ∥ Ready p v b place h ∥₁) wh
     pub low : h ≤ limit_of p.layout
     low = ∥∥₁_elim t le_prop (λ r. path_low p.code (limit_of p.layout) r.heights r.path)
 
-    pub locals : p.layout.locals ≤ p.layout.slots
+    pub locals : p.layout.local_count ≤ p.layout.slot_count
     locals = ∥∥₁_elim t le_prop (λ r. r.fits)
 
     pub operand : operand_wrong p v i.argument o ≡ false

@@ -5,18 +5,18 @@ use Rattle.hosts.specs.Meaning.{Meaning, Sent}
 use Rattle.parcels.specs.Opcodes.{effect_of, after, flow_of, successors_of}
 use Rattle.parcels.specs.Parts.{Parts, parts}
 use Rattle.parcels.specs.declared.opcodes.Operation.{Operation}
-use Rattle.paths.specs.Paths.{Among}
-use Rattle.scripts.specs.Running.{Running}
-use Rattle.scripts.specs.declared.states.State.TheVariants.{Live}
-use Rattle.scripts.proofs.Following.{leads}
-use Rattle.histories.specs.Ready.{Ready}
-use Rattle.histories.proofs.Operations.{leads_to}
+use Rattle.soundness.specs.Paths.{Among}
+use Rattle.semantics.specs.RunView.{RunView}
+use Rattle.semantics.specs.declared.states.State.TheVariants.{Live}
+use Rattle.semantics.proofs.Following.{leads}
+use Rattle.safety.specs.Ready.{Ready}
+use Rattle.safety.proofs.Operations.{leads_to}
 use Rattle.engine.proofs.Fetching.{onward}
 use Rattle.engine.specs.Turns.{outcome_of, script_in, HasTurn, GoesReady, Performed}
 use Rattle.engine.specs.declared.turns.Turn.{Turn}
 use Rattle.engine.specs.declared.turns.Went.{Went}
 
-module _ {S : Type 0} (means : S → Meaning) (may : S → Sent → Value → S → Type 0) (run : Running) where
+module _ {S : Type 0} (means : S → Meaning) (may : S → Sent → Value → S → Type 0) (run : RunView) where
   -- wherever the turn of a ready run goes on, the run is ready
   pub led : (n : Option (Operation × Turn)) (f : List Value) (s : S) (w : Went) (f' : List Value) (s' : S)
       → HasTurn run n → (run.state ≡ Live → ∥ Ready run.parts run.variables run.bindings run.place run.height ∥₁) → Performed means may run n s f (Ok w) s' f' → GoesReady run w

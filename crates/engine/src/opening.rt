@@ -4,12 +4,12 @@ ghost use Rattle.values.specs.Order.{first, unless};
 ghost use Rattle.hosts.specs.Meaning.{marks_of};
 ghost use Rattle.parcels.specs.Parts.{parts};
 ghost use Rattle.stages.specs.Check.{checked};
-ghost use Rattle.paths.specs.Verdicts.{parcel};
-ghost use Rattle.scripts.specs.Running.{value_in};
-ghost use Rattle.histories.specs.Opening.{open_tests, opened, begun, laid, empty};
-ghost use Rattle.histories.specs.Histories.{CarriesOn};
-ghost use Rattle.histories.specs.Ready.{Ready};
-ghost use Rattle.histories.specs.Tried.{TriedRuns};
+ghost use Rattle.soundness.specs.Verdicts.{parcel};
+ghost use Rattle.semantics.specs.RunView.{value_in};
+ghost use Rattle.safety.specs.Opening.{open_tests, opened, begun, laid, empty};
+ghost use Rattle.safety.specs.Histories.{ExtendsHistory};
+ghost use Rattle.safety.specs.Ready.{Ready};
+ghost use Rattle.safety.specs.Tried.{WorkedRuns};
 ghost use Rattle.engine.specs.Turns.{if_ok};
 ghost use Rattle.engine.specs.View.{view};
 
@@ -18,22 +18,22 @@ use crate::runs::Run;
 use checker::check;
 use hosts::{Host, Row};
 use parcels::{CodeKind, Ending, Layout, Parcel};
-use scripts::State;
+use semantics::State;
 use values::{Fault, Rule, Value};
 
 impl<'a> Run<'a> {
     // A run that is ended by return with nil, at place 0.
     pub fn empty() -> Run<'a>
         ensures run { view result ≡ empty }
-        ensures tried { TriedRuns }
+        ensures tried { WorkedRuns }
     {
         let layout = Layout {
             kind: CodeKind::Method,
-            literals: 0,
-            code: 0,
-            arguments: 0,
-            slots: 0,
-            locals: 0,
+            literal_count: 0,
+            code_length: 0,
+            argument_count: 0,
+            slot_count: 0,
+            local_count: 0,
         };
         Run {
             parcel: Parcel {
@@ -57,7 +57,7 @@ impl<'a> Run<'a> {
     pub fn collect<H: Host>(self, host: &H) -> (State, Value)
         ensures state { result.0 ≡ (view self.entry).state }
         ensures value { result.1 ≡ value_in (view self.entry).state }
-        ensures on { CarriesOn H.means H.may host.now (view self.entry) host.now None }
+        ensures on { ExtendsHistory H.means H.may host.now (view self.entry) host.now None }
     {
         match self.state {
             State::Ended { value, .. } => (self.state, value),
@@ -79,13 +79,13 @@ impl<'a> Run<'a> {
         ensures frame { frame.new ≡ if_ok result (laid (parts parcel.entry) arguments.now frame.old) frame.old }
     {
         let layout = parcel.layout;
-        if arguments.len() != layout.arguments as usize {
+        if arguments.len() != layout.argument_count as usize {
             return Err(Rule::ArgumentsDiffer.at(0));
         }
         if frame.len() < layout.cells() {
             return Err(Rule::FrameShort.at(0));
         }
-        lay_out(frame, arguments, layout.locals as usize);
+        lay_out(frame, arguments, layout.local_count as usize);
         let variables = host.count(Row::Variables);
         let bindings = host.count(Row::Bindings);
         *self = Run {
@@ -116,7 +116,7 @@ impl<'a> Run<'a> {
         ensures frame { frame.new ≡ (opened (H.means host.now) trusted bytes.now arguments.now frame.old heights.old waiting.old (view self.old)).frame }
         ensures heights { heights.new ≡ (checked (marks_of (H.means host.now)) trusted bytes.now heights.old waiting.old).heights }
         ensures waiting { waiting.new ≡ (checked (marks_of (H.means host.now)) trusted bytes.now heights.old waiting.old).waiting }
-        ensures on { CarriesOn H.means H.may host.now (view self.old) host.now (Some (view self.new)) }
+        ensures on { ExtendsHistory H.means H.may host.now (view self.old) host.now (Some (view self.new)) }
     {
         let top = check(host, bytes, trusted, heights, waiting)?;
         let Ok(parcel) = Parcel::read(bytes) else {

@@ -2,10 +2,10 @@
 ghost use Rattle.std.specs.Prelude.{◌≡◌, ◌+◌, ◌-◌, ◌<◌, ◌≤◌, ◌/◌, ◌%◌, true, length, is_some, Some, slice_index_or, slice_set};
 ghost use Rattle.values.specs.declared.kinds.Value.TheVariants.{Nil};
 ghost use Rattle.parcels.specs.Parts.{parts};
-ghost use Rattle.scripts.specs.Running.{ground_of, base_of};
+ghost use Rattle.semantics.specs.RunView.{code_context_of, base_of};
 ghost use Rattle.parcels.specs.Literals.{literal};
 ghost use Rattle.stages.specs.Operands.{selects, binds, constant};
-ghost use Rattle.scripts.specs.Scripts.{Runs, sending, selector_of, binding_of, constant_of};
+ghost use Rattle.semantics.specs.Scripts.{Runs, sending, selector_of, binding_of, constant_of};
 ghost use Rattle.parcels.specs.declared.opcodes.Operation.TheVariants.{Send, SendSelector, Push, Store, Branch};
 ghost use Rattle.parcels.specs.Opcodes.{landing_of};
 ghost use Rattle.engine.specs.declared.turns.Went.TheVariants.{On};
@@ -15,7 +15,7 @@ use crate::frames::push_value;
 use crate::turns::{Turn, Went};
 use hosts::{Host, Message, Row};
 use parcels::{Direction, Literal, Source, Target, argument_count, landing, literal_at};
-use scripts::Stop;
+use semantics::Stop;
 use values::Value;
 
 // The message to what ought to be true or false. Any number is a message, so that the ones with a meaning are constants and no enum.
@@ -84,7 +84,7 @@ impl Turn<'_> {
     ) -> Went
         requires need { count + 1 ≤ self.now.height }
         requires long { Long (parts self.now.parcel) (length frame.old) }
-        ensures { Runs H.means H.may (parts self.now.parcel).literals (sending (ground_of (parts self.now.parcel)) self.now.instruction self.now.next self.now.height self.now.operation is_super selector count) frame.old host.old (outcome_of result) frame.new host.new }
+        ensures { Runs H.means H.may (parts self.now.parcel).literals (sending (code_context_of (parts self.now.parcel)) self.now.instruction self.now.next self.now.height self.now.operation is_super selector count) frame.old host.old (outcome_of result) frame.new host.new }
     {
         let base = self.base();
         let first = base + (self.height - count);

@@ -1,11 +1,11 @@
 // A run of an accepted parcel.
 ghost use Rattle.std.specs.Prelude.{◌≡◌};
 ghost use Rattle.parcels.specs.Parts.{parts};
-ghost use Rattle.scripts.specs.declared.states.State.TheVariants.{Live};
-ghost use Rattle.histories.specs.Ready.{Ready};
+ghost use Rattle.semantics.specs.declared.states.State.TheVariants.{Live};
+ghost use Rattle.safety.specs.Ready.{Ready};
 
 use parcels::Parcel;
-use scripts::State;
+use semantics::State;
 
 // It borrows its parcel, notes the counts of its host, and is in a state at a place and a height. While it is live, the parcel keeps every rule
 // with these counts, and a path reaches the place at the height.

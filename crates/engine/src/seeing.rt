@@ -5,7 +5,7 @@ ghost use Rattle.engine.specs.View.{view};
 
 use crate::runs::Run;
 use parcels::Reader;
-use scripts::State;
+use semantics::State;
 
 impl Run<'_> {
     // The state.

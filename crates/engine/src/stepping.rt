@@ -1,19 +1,19 @@
 // One step of a run.
 ghost use Rattle.std.specs.Prelude.{◌≡◌, ℕ, ◌+◌, ◌*◌, ◌≤◌, length, OnOk, Some, Ok, if◌then◌else◌};
 ghost use Rattle.parcels.specs.Parts.{parts};
-ghost use Rattle.scripts.specs.declared.states.State.TheVariants.{Live};
+ghost use Rattle.semantics.specs.declared.states.State.TheVariants.{Live};
 ghost use Rattle.values.specs.Order.{first, unless};
 ghost use Rattle.engine.specs.Turns.{outcome_of, NextTurn, HasTurn, GoesReady, Long, Performed, count_tests};
-ghost use Rattle.scripts.specs.Sparing.{ScriptLaws};
-ghost use Rattle.scripts.specs.Running.{is_live, moved, Steps};
-ghost use Rattle.histories.specs.Histories.{CarriesOn, EveryHistoryIsSafe};
+ghost use Rattle.semantics.specs.Sparing.{ScriptLaws};
+ghost use Rattle.semantics.specs.RunView.{is_live, moved, Steps};
+ghost use Rattle.safety.specs.Histories.{ExtendsHistory, EveryHistoryIsSafe};
 ghost use Rattle.engine.specs.View.{view};
 
 use crate::runs::Run;
 use crate::turns::{Turn, Went};
 use hosts::{Host, Row};
 use parcels::{Operation, Reader};
-use scripts::{State, Stop};
+use semantics::{State, Stop};
 use values::{Fault, Rule, Value};
 
 impl<'a> Run<'a> {
@@ -159,7 +159,7 @@ impl<'a> Run<'a> {
     // calls is safe.
     pub fn step<H: Host>(&mut self, host: &mut H, frame: &mut [Value]) -> Result<(), Fault>
         ensures steps { Steps H.means H.may (view self.old) host.old frame.old result (view self.new) host.new frame.new }
-        ensures on { CarriesOn H.means H.may host.old (view self.old) host.new (Some (view self.new)) }
+        ensures on { ExtendsHistory H.means H.may host.old (view self.old) host.new (Some (view self.new)) }
         ensures safe { EveryHistoryIsSafe H.means H.may }
         ensures laws { ScriptLaws H.means H.may }
     {

@@ -7,7 +7,7 @@ ghost use Rattle.stages.specs.Encoding.{lands_wrong};
 ghost use Rattle.stages.specs.Operands.{operand_wrong};
 
 use parcels::{Ending, Instruction, Operation, Parcel};
-use scripts::Stop;
+use semantics::Stop;
 use values::Value;
 
 // An instruction of an accepted parcel, with its operation, the following place, the height before it and the height after it. The ghost fields
@@ -26,7 +26,7 @@ pub struct Turn<'a> {
     ghost need: { (effect_of operation instruction).takes ≤ height },
     ghost within: { height_after (effect_of operation instruction) height ≤ limit_of parcel.layout },
     ghost low: { height ≤ limit_of parcel.layout },
-    ghost locals: { parcel.layout.locals ≤ parcel.layout.slots },
+    ghost locals: { parcel.layout.local_count ≤ parcel.layout.slot_count },
     ghost goes_to: { after ≡ height_after (effect_of operation instruction) height },
 }
 

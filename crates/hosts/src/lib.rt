@@ -1,4 +1,4 @@
-// What the checker and a running method ask of the world around them.
+// What a check and a run ask of the world around them.
 #![tactic(auto)]
 
 mod interface;
@@ -7,4 +7,4 @@ mod rows;
 
 pub use interface::Host;
 pub use messages::Message;
-pub use rows::Row;
+pub use rows::{MAX_CELLS, Row};

@@ -1,7 +1,7 @@
 // A message, with its arguments where they lie.
 use values::Value;
 
-// Super or not, a selector number, a receiver and arguments.
+/// Super or not, a selector number, a receiver and arguments.
 #[derive(Clone, Copy)]
 pub struct Message<'a> {
     pub is_super: bool,

@@ -2,7 +2,7 @@
 use Rattle.std.specs.Prelude.{◌≡◌, ℕ, ◌/◌, ◌%◌, Bool, false, List, [], ◌∷◌, ◌++◌, length, replicate, Ok, Err, Result}
 use Rattle.values.specs.Faults.{fault}
 use Rattle.values.specs.declared.faults.Fault.{Fault}
-use Rattle.values.specs.declared.faults.Rule.TheVariants.{HeightLow, CodeLeft, HeightsDiffer, LandingWrong, StoreTrusted}
+use Rattle.values.specs.declared.faults.Rule.TheVariants.{HeightLow, FallsOffEnd, HeightsDiffer, LandingWrong, StoreTrusted}
 use Rattle.hosts.specs.Meaning.{Marks, marks_of}
 use Rattle.week_file.specs.Files.{week_meaning}
 use Rattle.stages.specs.Check.{checked}
@@ -64,7 +64,7 @@ Tried =
     (found (56 ∷ 0 ∷ 51 ∷ 0 ∷ []) ≡ verdict (Ok 1))
     × (found (40 ∷ 2 ∷ []) ≡ verdict (Ok 0))
     × (found (51 ∷ 0 ∷ []) ≡ verdict (Err (fault HeightLow 0)))
-    × (found (56 ∷ 0 ∷ []) ≡ verdict (Err (fault CodeLeft 0)))
+    × (found (56 ∷ 0 ∷ []) ≡ verdict (Err (fault FallsOffEnd 0)))
     × (found (44 ∷ 1 ∷ 40 ∷ 4 ∷ []) ≡ verdict (Err (fault HeightsDiffer 0)))
     × (found (41 ∷ 1 ∷ 56 ∷ 0 ∷ 51 ∷ 0 ∷ []) ≡ verdict (Err (fault LandingWrong 0)))
     × (found (41 ∷ 2 ∷ 55 ∷ 0 ∷ 56 ∷ 0 ∷ 51 ∷ 0 ∷ []) ≡ verdict (Err (fault LandingWrong 0)))

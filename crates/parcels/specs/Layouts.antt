@@ -46,7 +46,7 @@ header_tests b =
 
 -- the header of bytes that keep the header rules, or the first rule that they break
 abbrev pub header_of : List ℕ → Result Header Fault
-header_of b = unless (first (header_tests b)) (record { kind = kind_in b; literals = literal_count b; flags = flags b; code = code_length b })
+header_of b = unless (first (header_tests b)) (record { kind = kind_in b; literal_count = literal_count b; flags = flags b; code_length = code_length b })
 
 -- the number in the w bits of x from bit low on
 abbrev pub bits : ℕ → ℕ → ℕ → ℕ
@@ -56,22 +56,22 @@ bits x low w = x / 2 ^ low % 2 ^ w
 abbrev pub method_layout : Header → Layout
 method_layout h = record {
   kind = Method;
-  literals = h.literals;
-  code = h.code;
-  arguments = bits h.flags 0 5;
-  slots = 4 * bits h.flags 5 6;
-  locals = bits h.flags 11 6;
+  literal_count = h.literal_count;
+  code_length = h.code_length;
+  argument_count = bits h.flags 0 5;
+  slot_count = 4 * bits h.flags 5 6;
+  local_count = bits h.flags 11 6;
 }
 
 -- a block: chain use in bits 0 to 5, a quarter of the slots in 14 to 19, locals in 20 to 24, arguments in 25 to 29
 abbrev pub block_layout : Header → Layout
 block_layout h = record {
   kind = Block (bits h.flags 0 6);
-  literals = h.literals;
-  code = h.code;
-  arguments = bits h.flags 25 5;
-  slots = 4 * bits h.flags 14 6;
-  locals = bits h.flags 20 5;
+  literal_count = h.literal_count;
+  code_length = h.code_length;
+  argument_count = bits h.flags 25 5;
+  slot_count = 4 * bits h.flags 14 6;
+  local_count = bits h.flags 20 5;
 }
 
 -- the layout of a method or a block
@@ -94,7 +94,7 @@ reserved_set h = reserved_in h.kind h.flags
 
 -- the flag rules, in order
 abbrev pub flag_tests : Header → List Test
-flag_tests h = test FlagsReserved 4 (reserved_set h) ∷ test LocalsOverSlots 4 (nat_lt (laid_out h).slots (laid_out h).locals) ∷ []
+flag_tests h = test FlagsReserved 4 (reserved_set h) ∷ test LocalsOverSlots 4 (nat_lt (laid_out h).slot_count (laid_out h).local_count) ∷ []
 
 -- the layout of a header that keeps the flag rules, or the first that it breaks
 abbrev pub flagged : Header → Result Layout Fault
@@ -106,11 +106,11 @@ layout_of b = and_then (header_of b) flagged
 
 -- the greatest height
 abbrev pub limit_of : Layout → ℕ
-limit_of l = l.slots - l.locals
+limit_of l = l.slot_count - l.local_count
 
 -- what the rules leave of a layout in n bytes
 pub record FitsIn (l : Layout) (n : ℕ) : Type 0 where
-  pub ends : 10 + 6 * l.literals + l.code ≡ n
-  pub few : l.literals ≤ 1024
-  pub short : l.code ≤ 4096
-  pub low : l.slots ≤ 252
+  pub ends : 10 + 6 * l.literal_count + l.code_length ≡ n
+  pub few : l.literal_count ≤ 1024
+  pub short : l.code_length ≤ 4096
+  pub low : l.slot_count ≤ 252

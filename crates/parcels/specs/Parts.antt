@@ -14,7 +14,7 @@ pub record Parts : Type 0 where
 
 -- the parts of bytes with a layout
 abbrev pub split : List ℕ → Layout → Parts
-split b l = record { layout = l; literals = take (6 * l.literals) (drop 10 b); code = drop (10 + 6 * l.literals) b }
+split b l = record { layout = l; literals = take (6 * l.literal_count) (drop 10 b); code = drop (10 + 6 * l.literal_count) b }
 
 -- the parts of a parcel, or the first header rule or flag rule that it breaks
 abbrev pub parts_of : List ℕ → Result Parts Fault

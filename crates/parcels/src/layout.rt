@@ -17,11 +17,11 @@ pub enum CodeKind {
 #[derive(Clone, Copy, PartialEq, Eq, Debug)]
 pub struct Layout {
     pub kind: CodeKind,
-    pub literals: u16,
-    pub code: u16,
-    pub arguments: u8,
-    pub slots: u8,
-    pub locals: u8,
+    pub literal_count: u16,
+    pub code_length: u16,
+    pub argument_count: u8,
+    pub slot_count: u8,
+    pub local_count: u8,
 }
 
 // What the first two bytes say that the code is; the chain use of a block stands in its flags.
@@ -50,15 +50,15 @@ impl TryFrom<u16> for Kind {
 #[derive(Clone, Copy)]
 pub struct Header {
     pub kind: Kind,
-    pub literals: u16,
+    pub literal_count: u16,
     pub flags: u32,
-    pub code: u16,
+    pub code_length: u16,
 }
 
 // The header of a parcel, or the first header rule that it breaks.
 fn read_header(bytes: &[u8]) -> Result<Header, Fault>
     ensures answer { result ≡ header_of bytes.now }
-    ensures fits { IfOk result (λ h. (10 + 6 * h.literals + h.code ≡ length bytes.now) × (h.literals ≤ 1024) × (h.code ≤ 4096)) }
+    ensures fits { IfOk result (λ h. (10 + 6 * h.literal_count + h.code_length ≡ length bytes.now) × (h.literal_count ≤ 1024) × (h.code_length ≤ 4096)) }
 {
     let [k1, k0, n1, n0, f3, f2, f1, f0, l1, l0, ..] = bytes else {
         return Err(Rule::HeaderShort.at(0));
@@ -66,23 +66,23 @@ fn read_header(bytes: &[u8]) -> Result<Header, Fault>
     let Ok(kind) = Kind::try_from(u16::from_be_bytes([*k1, *k0])) else {
         return Err(Rule::KindUnknown.at(0));
     };
-    let literals = u16::from_be_bytes([*n1, *n0]);
-    if literals > 1024 {
+    let literal_count = u16::from_be_bytes([*n1, *n0]);
+    if literal_count > 1024 {
         return Err(Rule::LiteralsTooMany.at(2));
     }
-    let code = u16::from_be_bytes([*l1, *l0]);
-    if code > 4096 {
+    let code_length = u16::from_be_bytes([*l1, *l0]);
+    if code_length > 4096 {
         return Err(Rule::CodeTooLong.at(8));
     }
-    if bytes.len() != 10 + 6 * literals as usize + code as usize {
+    if bytes.len() != 10 + 6 * literal_count as usize + code_length as usize {
         return Err(Rule::LengthWrong.at(8));
     }
     let flags = u32::from_be_bytes([*f3, *f2, *f1, *f0]);
     Ok(Header {
         kind,
-        literals,
+        literal_count,
         flags,
-        code,
+        code_length,
     })
 }
 
@@ -103,21 +103,21 @@ fn lay_out(header: Header) -> Layout
     match header.kind {
         Kind::Method => Layout {
             kind: CodeKind::Method,
-            literals: header.literals,
-            code: header.code,
-            arguments: bits(flags, 0, 5),
-            slots: 4 * bits(flags, 5, 6),
-            locals: bits(flags, 11, 6),
+            literal_count: header.literal_count,
+            code_length: header.code_length,
+            argument_count: bits(flags, 0, 5),
+            slot_count: 4 * bits(flags, 5, 6),
+            local_count: bits(flags, 11, 6),
         },
         Kind::Block => Layout {
             kind: CodeKind::Block {
                 chain: bits(flags, 0, 6),
             },
-            literals: header.literals,
-            code: header.code,
-            arguments: bits(flags, 25, 5),
-            slots: 4 * bits(flags, 14, 6),
-            locals: bits(flags, 20, 5),
+            literal_count: header.literal_count,
+            code_length: header.code_length,
+            argument_count: bits(flags, 25, 5),
+            slot_count: 4 * bits(flags, 14, 6),
+            local_count: bits(flags, 20, 5),
         },
     }
 }
@@ -136,13 +136,13 @@ fn reserved(header: Header) -> bool
 // The layout that a header gives, or the first flag rule that it breaks.
 fn read_flags(header: Header) -> Result<Layout, Fault>
     ensures answer { result ≡ flagged header }
-    ensures fits { IfOk result (λ l. (l.literals ≡ header.literals) × (l.code ≡ header.code) × (l.slots ≤ 252)) }
+    ensures fits { IfOk result (λ l. (l.literal_count ≡ header.literal_count) × (l.code_length ≡ header.code_length) × (l.slot_count ≤ 252)) }
 {
     if reserved(header) {
         return Err(Rule::FlagsReserved.at(4));
     }
     let layout = lay_out(header);
-    if layout.locals > layout.slots {
+    if layout.local_count > layout.slot_count {
         return Err(Rule::LocalsOverSlots.at(4));
     }
     Ok(layout)
@@ -160,22 +160,22 @@ impl Layout {
 
     // How many cells a frame has to have: those of the arguments and the slots.
     pub fn cells(self) -> usize
-        ensures { result ≡ self.arguments + self.slots }
+        ensures { result ≡ self.argument_count + self.slot_count }
     {
-        usize::from(self.arguments) + usize::from(self.slots)
+        usize::from(self.argument_count) + usize::from(self.slot_count)
     }
 
     // Where the working cells begin: behind the arguments and the locals.
     pub fn base(self) -> usize
-        ensures { result ≡ self.arguments + self.locals }
+        ensures { result ≡ self.argument_count + self.local_count }
     {
-        usize::from(self.arguments) + usize::from(self.locals)
+        usize::from(self.argument_count) + usize::from(self.local_count)
     }
 
     // The greatest height: what the slots leave beside the locals.
     pub fn limit(self) -> u8
         ensures { result ≡ limit_of self }
     {
-        self.slots.saturating_sub(self.locals)
+        self.slot_count.saturating_sub(self.local_count)
     }
 }

@@ -9,7 +9,7 @@ use values::{Fault, Rule, Value};
 #[derive(Clone, Copy, PartialEq, Eq, Debug)]
 pub enum Literal {
     Constant(Value),
-    Selector { number: u32, arguments: u8 },
+    Selector { number: u32, argument_count: u8 },
     Binding(u32),
 }
 
@@ -29,7 +29,7 @@ fn of_parts(detail: u8, kind: u8, number: u32) -> Option<Literal>
     match (kind, detail) {
         (SELECTOR, 0..=31) => Some(Literal::Selector {
             number,
-            arguments: detail,
+            argument_count: detail,
         }),
         (BINDING, 0) => Some(Literal::Binding(number)),
         (0..=5, 0) => Some(Literal::Constant(Value::from_parts(kind, number)?)),

@@ -17,10 +17,10 @@ impl<'a> Parcel<'a> {
     // The parts of a parcel, or the first header rule or flag rule that it breaks.
     pub fn read(bytes: &'a [u8]) -> Result<Parcel<'a>, Fault>
         ensures answer { seen result ≡ parts_of bytes.now }
-        ensures fits { IfOk result (λ p. (length p.code.now ≤ 4096) × (p.layout.slots ≤ 252)) }
+        ensures fits { IfOk result (λ p. (length p.code.now ≤ 4096) × (p.layout.slot_count ≤ 252)) }
     {
         let layout = Layout::read(bytes)?;
-        let code_start = 10 + 6 * layout.literals as usize;
+        let code_start = 10 + 6 * layout.literal_count as usize;
         Ok(Parcel {
             layout,
             literals: &bytes[10..code_start],

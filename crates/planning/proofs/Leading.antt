@@ -6,18 +6,18 @@ use Rattle.values.specs.declared.faults.Fault.{Fault}
 use Rattle.values.specs.declared.faults.Rule.TheVariants.{ArgumentsDiffer, FrameShort}
 use Rattle.parcels.specs.Parts.{Parts}
 use Rattle.stages.specs.Check.{checked}
-use Rattle.paths.specs.Verdicts.{parcel}
-use Rattle.scripts.specs.Scripts.{Outcome as Way, goes, ends, stops}
-use Rattle.scripts.specs.declared.states.State.TheVariants.{Live}
+use Rattle.soundness.specs.Verdicts.{parcel}
+use Rattle.semantics.specs.Scripts.{Outcome as Way, goes, ends, stops}
+use Rattle.semantics.specs.declared.states.State.TheVariants.{Live}
 use Rattle.values.specs.declared.kinds.Value.{Value}
 use Rattle.hosts.specs.Meaning.{Meaning, Marks, Sent, Kept, marks_of, marked}
-use Rattle.scripts.specs.Laws.{Like}
-use Rattle.scripts.specs.Running.{Running, Answer, moved, Stepping, Steps, step_tests, cells_of, next_script}
-use Rattle.scripts.proofs.Following.{like}
-use Rattle.scripts.proofs.Hosts.{like_same, like_trans}
-use Rattle.histories.specs.Opening.{opened, admitted, judged, empty}
-use Rattle.histories.specs.Histories.{History, Runs, new, taken, opens, steps, collects}
-use Rattle.histories.proofs.Safety.{every_history_is_safe}
+use Rattle.semantics.specs.Laws.{Like}
+use Rattle.semantics.specs.RunView.{RunView, Answer, moved, Stepping, Steps, step_tests, cells_of, next_script}
+use Rattle.semantics.proofs.Following.{like}
+use Rattle.semantics.proofs.Hosts.{like_same, like_trans}
+use Rattle.safety.specs.Opening.{opened, admitted, judged, empty}
+use Rattle.safety.specs.Histories.{History, Runs, new, taken, opens, steps, collects}
+use Rattle.safety.proofs.Safety.{every_history_is_safe}
 use Rattle.planning.specs.Keeping.{StaysWithin, Led, LeadsOn, Going}
 use Rattle.planning.specs.declared.options.Plan.{Plan}
 
@@ -27,23 +27,23 @@ Lawful {S} means may = (s t : S) (m : Sent) (v : Value) → may s m v t → Kept
 
 module _ {S : Type 0} (means : S → Meaning) (may : S → Sent → Value → S → Type 0) where
   -- a step leads on
-  pub stepped : (run run' : Running) (s s' : S) (f f' : List Value) (a : Answer) → Steps means may run s f a run' s' f' → LeadsOn means may s run s' run'
+  pub stepped : (run run' : RunView) (s s' : S) (f f' : List Value) (a : Answer) → Steps means may run s f a run' s' f' → LeadsOn means may s run s' run'
   stepped run run' s s' f f' a st t s₀ l = record {
     past = steps l.past 0 run run' refl s' f f' a st;
     untrusted = l.untrusted;
   }
 
   -- an opening of an empty run is led to
-  pub begun : (t : Bool) (s : S) (b : List ℕ) (args f : List Value) (hs ws : List ℕ) (run run' : Running)
+  pub begun : (t : Bool) (s : S) (b : List ℕ) (args f : List Value) (hs ws : List ℕ) (run run' : RunView)
       → run ≡ empty → run' ≡ (opened (means s) t b args f hs ws run).run → Led means may t s s run'
   begun t s b args f hs ws run run' e e' =
-      subst⁻¹ (λ (r : Running). Led means may t s s r) (e' ∙ ap (λ (r : Running). (opened (means s) t b args f hs ws r).run) e) (record {
+      subst⁻¹ (λ (r : RunView). Led means may t s s r) (e' ∙ ap (λ (r : RunView). (opened (means s) t b args f hs ws r).run) e) (record {
         past = opens (taken new) 0 empty refl t b args f hs ws;
         untrusted = λ q. ((λ _. q), tt);
       })
 
   -- what never changes of a host, over a step
-  like_by : Lawful means may → (x : Option Fault) (run run' : Running) (s s' : S) (f f' : List Value) (a : Answer) → Stepping means may x run s f a run' s' f' → Like (means s) (means s')
+  like_by : Lawful means may → (x : Option Fault) (run run' : RunView) (s s' : S) (f f' : List Value) (a : Answer) → Stepping means may x run s f a run' s' f' → Like (means s) (means s')
   like_by law (Some x) run run' s s' f f' a p = like_same p.2
   like_by law None run run' s s' f f' a p = like means may run.parts.literals law (next_script run) f s p.0 f' s' p.3
 
@@ -56,7 +56,7 @@ module _ {S : Type 0} (means : S → Meaning) (may : S → Sent → Value → S 
   alike law (collects past k run at) = alike law past
 
   -- what was led to under a plan stays within it
-  pub within : Lawful means may → (p : Plan) (s₀ s : S) (run : Running) → Led means may p.trusted s₀ s run → StaysWithin p (means s₀) (means s)
+  pub within : Lawful means may → (p : Plan) (s₀ s : S) (run : RunView) → Led means may p.trusted s₀ s run → StaysWithin p (means s₀) (means s)
   within law p s₀ s run l =
       let safe = every_history_is_safe means may law s₀ s (Some run ∷ []) l.past in
       record {
@@ -65,23 +65,23 @@ module _ {S : Type 0} (means : S → Meaning) (may : S → Sent → Value → S 
       }
 
   -- a step leaves the parcel
-  same_parcel : (run : Running) (o : Way) → (moved run o).parts ≡ run.parts
+  same_parcel : (run : RunView) (o : Way) → (moved run o).parts ≡ run.parts
   same_parcel run (goes p h) = refl
   same_parcel run (ends e v) = refl
   same_parcel run (stops x) = refl
 
-  pub same_parts : (x : Option Fault) (run run' : Running) (s s' : S) (f f' : List Value) (a : Answer) → Stepping means may x run s f a run' s' f' → run'.parts ≡ run.parts
-  same_parts (Some x) run run' s s' f f' a p = ap (λ (r : Running). r.parts) p.1
-  same_parts None run run' s s' f f' a p = ap (λ (r : Running). r.parts) p.2 ∙ same_parcel run p.0
+  pub same_parts : (x : Option Fault) (run run' : RunView) (s s' : S) (f f' : List Value) (a : Answer) → Stepping means may x run s f a run' s' f' → run'.parts ≡ run.parts
+  same_parts (Some x) run run' s s' f f' a p = ap (λ (r : RunView). r.parts) p.1
+  same_parts None run run' s s' f f' a p = ap (λ (r : RunView). r.parts) p.2 ∙ same_parcel run p.0
 
   -- a live run that is going is not refused
   pub unrefused : Lawful means may
-      → (run run' : Running) (s s' : S) (f f' : List Value) (a : Answer) → Going means may s run f → run.state ≡ Live → Steps means may run s f a run' s' f' → a ≡ Ok tt
+      → (run run' : RunView) (s s' : S) (f f' : List Value) (a : Answer) → Going means may s run f → run.state ≡ Live → Steps means may run s f a run' s' f' → a ≡ Ok tt
   unrefused law run run' s s' f f' a x l st =
       ((every_history_is_safe means may law x.began s (Some run ∷ []) x.led.past).goes_on 0 run refl l f f' a run' s' x.long st).unrefused
 
   -- and goes on after a step, with a frame that is as long
-  pub goes_further : (run run' : Running) (s s' : S) (f f' : List Value) (a : Answer) → length f' ≡ length f → Going means may s run f → Steps means may run s f a run' s' f' → Going means may s' run' f'
+  pub goes_further : (run run' : RunView) (s s' : S) (f f' : List Value) (a : Answer) → length f' ≡ length f → Going means may s run f → Steps means may run s f a run' s' f' → Going means may s' run' f'
   goes_further run run' s s' f f' a same x st = record {
     trusted = x.trusted;
     began = x.began;
@@ -92,7 +92,7 @@ module _ {S : Type 0} (means : S → Meaning) (may : S → Sent → Value → S 
   }
 
 -- an opening that is not refused has a frame that is long enough
-module _ (p : Parts) (m : Meaning) (args f : List Value) (run : Running) (top : ℕ) where
+module _ (p : Parts) (m : Meaning) (args f : List Value) (run : RunView) (top : ℕ) where
   long_by : (a b : Bool) (n : ℕ) → (b ≡ false → cells_of p ≤ length f) → (admitted (first (test ArgumentsDiffer 0 a ∷ test FrameShort 0 b ∷ [])) n p m args f run).answer ≡ Ok top
       → cells_of (admitted (first (test ArgumentsDiffer 0 a ∷ test FrameShort 0 b ∷ [])) n p m args f run).run.parts ≤ length f
   long_by true b n k e = absurd cc
@@ -101,11 +101,11 @@ module _ (p : Parts) (m : Meaning) (args f : List Value) (run : Running) (top : 
 
   pub long_enough : (v : Result ℕ Fault) → (judged v p m args f run).answer ≡ Ok top → cells_of (judged v p m args f run).run.parts ≤ length f
   long_enough (Err x) e = absurd cc
-  long_enough (Ok n) e = long_by (not (eqb (length args) p.layout.arguments)) (ltb (length f) (cells_of p)) n (ltb-false (length f) (cells_of p)) e
+  long_enough (Ok n) e = long_by (not (eqb (length args) p.layout.argument_count)) (ltb (length f) (cells_of p)) n (ltb-false (length f) (cells_of p)) e
 
 module _ {S : Type 0} (means : S → Meaning) (may : S → Sent → Value → S → Type 0) where
   -- a run that an opening began is going
-  pub going : (t : Bool) (s : S) (b : List ℕ) (args f f' : List Value) (hs ws : List ℕ) (run run' : Running) (a : Result ℕ Fault) (top : ℕ)
+  pub going : (t : Bool) (s : S) (b : List ℕ) (args f f' : List Value) (hs ws : List ℕ) (run run' : RunView) (a : Result ℕ Fault) (top : ℕ)
       → run ≡ empty → a ≡ (opened (means s) t b args f hs ws run).answer → a ≡ Ok top → run' ≡ (opened (means s) t b args f hs ws run).run → length f' ≡ length f
       → Going means may s run' f'
   going t s b args f f' hs ws run run' a top e answer ok e' same = record {
@@ -114,12 +114,12 @@ module _ {S : Type 0} (means : S → Meaning) (may : S → Sent → Value → S 
     led = begun means may t s b args f hs ws run run' e e';
     long =
         subst⁻¹ (λ n. cells_of run'.parts ≤ n) same
-        (subst⁻¹ (λ (r : Running). cells_of r.parts ≤ length f) e'
+        (subst⁻¹ (λ (r : RunView). cells_of r.parts ≤ length f) e'
         (long_enough (parcel b) (means s) args f run top (checked (marks_of (means s)) t b hs ws).verdict (sym answer ∙ ok)));
   }
 
   -- what an opening began and was led on from there stays within the plan
-  pub within_led : Lawful means may → (p : Plan) (s s' : S) (b : List ℕ) (args f : List Value) (hs ws : List ℕ) (run run' run'' : Running)
+  pub within_led : Lawful means may → (p : Plan) (s s' : S) (b : List ℕ) (args f : List Value) (hs ws : List ℕ) (run run' run'' : RunView)
       → run ≡ empty → run' ≡ (opened (means s) p.trusted b args f hs ws run).run → LeadsOn means may s run' s' run'' → StaysWithin p (means s) (means s')
   within_led law p s s' b args f hs ws run run' run'' e e' on = within means may law p s s' run'' (on p.trusted s (begun means may p.trusted s b args f hs ws run run' e e'))
 

@@ -4,7 +4,7 @@ use Rattle.values.specs.declared.faults.Fault.{Fault}
 use Rattle.values.specs.declared.kinds.Value.{Value}
 use Rattle.hosts.specs.Meaning.{Meaning, Sent, marks_of}
 use Rattle.stages.specs.Check.{checked}
-use Rattle.histories.specs.Opening.{opened, empty}
+use Rattle.safety.specs.Opening.{opened, empty}
 use Rattle.planning.specs.Frames.{frame_of}
 use Rattle.planning.specs.Keeping.{Played}
 use Rattle.planning.specs.Turns.{Handled, HandledBy}

@@ -4,7 +4,7 @@ use Rattle.values.specs.declared.faults.Fault.{Fault}
 use Rattle.values.specs.declared.kinds.Value.{Value}
 use Rattle.values.specs.declared.kinds.Value.TheVariants.{Nil}
 use Rattle.parcels.specs.Parts.{Parts, parts_of}
-use Rattle.scripts.specs.Running.{cells_of}
+use Rattle.semantics.specs.RunView.{cells_of}
 
 -- how many cells a parcel's frame has, none where the header or the flags are refused
 abbrev pub cells_in : Result Parts Fault → ℕ

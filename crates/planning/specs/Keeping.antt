@@ -3,11 +3,11 @@ use Rattle.std.specs.Prelude.{◌≡◌, ℕ, ◌+◌, ◌≤◌, Bool, true, fa
 use Rattle.values.specs.declared.faults.Fault.{Fault}
 use Rattle.values.specs.declared.kinds.Value.{Value}
 use Rattle.hosts.specs.Meaning.{Meaning, Sent, marks_of, marked}
-use Rattle.scripts.specs.Running.{Running, Steps, cells_of}
-use Rattle.scripts.specs.Scripts.{cell_value}
-use Rattle.scripts.specs.declared.states.State.TheVariants.{Live}
-use Rattle.histories.specs.Histories.{History, Untrusted}
-use Rattle.histories.specs.Opening.{Opened}
+use Rattle.semantics.specs.RunView.{RunView, Steps, cells_of}
+use Rattle.semantics.specs.Scripts.{cell_value}
+use Rattle.semantics.specs.declared.states.State.TheVariants.{Live}
+use Rattle.safety.specs.Histories.{History, Untrusted}
+use Rattle.safety.specs.Opening.{Opened}
 use Rattle.planning.specs.declared.options.Plan.{Plan}
 use Rattle.planning.specs.declared.texts.Outcome.{Outcome}
 use Rattle.planning.specs.declared.texts.Ran.{Ran}
@@ -24,29 +24,29 @@ pub record StaysWithin (p : Plan) (m m' : Meaning) : Type 0 where
 
 module _ {S : Type 0} (means : S → Meaning) (may : S → Sent → Value → S → Type 0) where
   -- calls on one run alone led from the host s₀ to the host s and the run; where t is false, no trusted parcel was opened
-  pub record Led (t : Bool) (s₀ s : S) (run : Running) : Type 0 where
+  pub record Led (t : Bool) (s₀ s : S) (run : RunView) : Type 0 where
     pub past : History means may s₀ s (Some run ∷ [])
     pub untrusted : t ≡ false → Untrusted means may past
 
   -- what led to the host s and the run leads on to s' and run'
-  abbrev pub LeadsOn : S → Running → S → Running → Type 0
+  abbrev pub LeadsOn : S → RunView → S → RunView → Type 0
   LeadsOn s run s' run' = (t : Bool) (s₀ : S) → Led t s₀ s run → Led t s₀ s' run'
 
   -- a run that was led to, with a frame that is long enough for it
-  pub record Going (s : S) (run : Running) (f : List Value) : Type 0 where
+  pub record Going (s : S) (run : RunView) (f : List Value) : Type 0 where
     pub trusted : Bool
     pub began : S
     pub led : Led trusted began s run
     pub long : cells_of run.parts ≤ length f
 
   -- so many steps, each of a live run and none refused, lead from one host, run and frame to another
-  pub data Stepped (s₀ : S) (run₀ : Running) (f₀ : List Value) : ℕ → S → Running → List Value → Type 0 where
+  pub data Stepped (s₀ : S) (run₀ : RunView) (f₀ : List Value) : ℕ → S → RunView → List Value → Type 0 where
     none : Stepped s₀ run₀ f₀ 0 s₀ run₀ f₀
-    more : {k : ℕ} {s s' : S} {run run' : Running} {f f' : List Value}
+    more : {k : ℕ} {s s' : S} {run run' : RunView} {f f' : List Value}
         → Stepped s₀ run₀ f₀ k s run f → run.state ≡ Live → Steps means may run s f (Ok tt) run' s' f' → Stepped s₀ run₀ f₀ (k + 1) s' run' f'
 
   -- a run was stepped until it was live no more, or else as often as the budget says: its state and its place then, and how many steps were made
-  pub record Followed (budget : ℕ) (s : S) (run : Running) (f : List Value) (ran : Ran) (s' : S) (run' : Running) (f' : List Value) : Type 0 where
+  pub record Followed (budget : ℕ) (s : S) (run : RunView) (f : List Value) (ran : Ran) (s' : S) (run' : RunView) (f' : List Value) : Type 0 where
     pub state : ran.state ≡ run'.state
     pub place : ran.place ≡ run'.place
     pub within : ran.steps ≤ budget
@@ -56,7 +56,7 @@ module _ {S : Type 0} (means : S → Meaning) (may : S → Sent → Value → S 
   -- what comes of an accepted parcel by the answer of its opening: the refusal, or the run that began is followed
   abbrev pub PlayedBy : Result ℕ Fault → Opened → ℕ → S → Outcome → S → List Value → Type 0
   PlayedBy (Err x) o budget s out s' f' = (out.0 ≡ Err x) × (means s' ≡ means s)
-  PlayedBy (Ok top) o budget s out s' f' = IsOkAnd out.0 (λ ran. (run' : Running) × Followed budget s o.run o.frame ran s' run' f')
+  PlayedBy (Ok top) o budget s out s' f' = IsOkAnd out.0 (λ ran. (run' : RunView) × Followed budget s o.run o.frame ran s' run' f')
 
   -- what comes of an accepted parcel by its opening
   abbrev pub Played : Opened → ℕ → S → Outcome → S → List Value → Type 0

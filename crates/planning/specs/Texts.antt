@@ -7,9 +7,9 @@ use Rattle.hosts.specs.declared.rows.Row.{Row}
 use Rattle.hosts.specs.declared.rows.Row.TheVariants.{Variables, Bindings}
 use Rattle.parcels.specs.declared.opcodes.Ending.{Ending}
 use Rattle.parcels.specs.declared.opcodes.Ending.TheVariants.{Return, MethodReturn}
-use Rattle.scripts.specs.declared.states.State.{State}
-use Rattle.scripts.specs.declared.states.State.TheVariants.{Live, Ended, Stopped}
-use Rattle.scripts.specs.declared.states.Stop.TheVariants.{NotUnderstood, NoBlock}
+use Rattle.semantics.specs.declared.states.State.{State}
+use Rattle.semantics.specs.declared.states.State.TheVariants.{Live, Ended, Stopped}
+use Rattle.semantics.specs.declared.states.Stop.TheVariants.{NotUnderstood, NoBlock}
 use Rattle.planning.specs.declared.options.Awaited.{Awaited}
 use Rattle.planning.specs.declared.options.Awaited.TheVariants.{Steps, Argument}
 use Rattle.planning.specs.declared.texts.StepText.{StepText}

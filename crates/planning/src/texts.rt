@@ -4,7 +4,7 @@ ghost use Rattle.planning.specs.Texts.{step_text, ran_text, outcome_text, cell_t
 
 use hosts::Row;
 use parcels::Ending;
-use scripts::{State, Stop};
+use semantics::{State, Stop};
 use std::fmt;
 use values::{Fault, Value};
 

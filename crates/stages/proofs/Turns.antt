@@ -8,28 +8,28 @@ use Rattle.values.specs.declared.faults.Fault.{Fault}
 use Rattle.parcels.specs.Reading.{Reading, read_at, unreadable_rule}
 use Rattle.parcels.specs.declared.reading.Instruction.{Instruction}
 use Rattle.parcels.specs.declared.reading.Unreadable.{Unreadable}
-use Rattle.stages.specs.Encoding.{Setting, site_fault}
+use Rattle.stages.specs.Encoding.{Context, site_fault}
 use Rattle.stages.specs.Sweep.{pushes_block, site, turned, swept}
 
 -- what is left to find from p on, in at most n instructions
-abbrev left : Setting → ℕ → Bool → ℕ → Result (Unit {0}) Fault
+abbrev left : Context → ℕ → Bool → ℕ → Result (Unit {0}) Fault
 left x n b p = unless (swept x n b p) (tt {0})
 
 -- all that there is to find
-abbrev pub all : Setting → Result (Unit {0}) Fault
+abbrev pub all : Context → Result (Unit {0}) Fault
 all x = left x (length x.parts.code) false 0
 
 -- what is left to find from p on is what there was to find
-pub record Sofar (x : Setting) (b : Bool) (p : ℕ) : Type 0 where
+pub record Sofar (x : Context) (b : Bool) (p : ℕ) : Type 0 where
   pub fuel : ℕ
   pub enough : length x.parts.code ≤ p + fuel
   pub same : left x fuel b p ≡ all x
 
-pub start : (x : Setting) → Sofar x false 0
+pub start : (x : Context) → Sofar x false 0
 start x = record { fuel = length x.parts.code; enough = omega arith; same = refl }
 
 -- nothing is left
-pub ended : (x : Setting) (b : Bool) (p : ℕ) → Sofar x b p → length x.parts.code ≤ p → Ok (tt {0}) ≡ all x
+pub ended : (x : Context) (b : Bool) (p : ℕ) → Sofar x b p → length x.parts.code ≤ p → Ok (tt {0}) ≡ all x
 ended x b p s h = by s.fuel s.same
   where
     by : (n : ℕ) → left x n b p ≡ all x → Ok (tt {0}) ≡ all x
@@ -37,12 +37,12 @@ ended x b p s h = by s.fuel s.same
     by (suc n) q = ap (λ (o : Option Fault). unless o (tt {0})) (sym (cond-true (leb (length x.parts.code) p) None _ (le-leb _ _ h))) ∙ q
 
 -- the turn at p
-pub record Turn (x : Setting) (b : Bool) (p : ℕ) (r : Reading) : Type 0 where
+pub record Turn (x : Context) (b : Bool) (p : ℕ) (r : Reading) : Type 0 where
   pub fuel : ℕ
   pub enough : length x.parts.code ≤ p + suc fuel
   pub same : unless (turned x (swept x fuel) b p r) (tt {0}) ≡ all x
 
-pub turn : (x : Setting) (b : Bool) (p : ℕ) (r : Reading) → Sofar x b p → p < length x.parts.code → r ≡ read_at x.parts.code p → Turn x b p r
+pub turn : (x : Context) (b : Bool) (p : ℕ) (r : Reading) → Sofar x b p → p < length x.parts.code → r ≡ read_at x.parts.code p → Turn x b p r
 turn x b p r s h e = by s.fuel s.enough s.same
   where
     by : (n : ℕ) → length x.parts.code ≤ p + n → left x n b p ≡ all x → Turn x b p r
@@ -58,7 +58,7 @@ in_turn : (o p : Option Fault) → and_then (unless o (tt {0})) (λ _. unless p 
 in_turn (Some f) p = refl
 in_turn None p = refl
 
-module _ {x : Setting} {b : Bool} {p : ℕ} where
+module _ {x : Context} {b : Bool} {p : ℕ} where
   -- what is read at p is no instruction
   pub unread : (e : Unreadable) → Turn x b p (Err e) → Err (fault (unreadable_rule e) p) ≡ all x
   unread e t = t.same

@@ -5,9 +5,9 @@ use Rattle.std.proofs.lemmas.List.{drop_all}
 use Rattle.values.specs.Faults.{fault}
 use Rattle.values.specs.Order.{and_then}
 use Rattle.values.specs.declared.faults.Fault.{Fault}
-use Rattle.values.specs.declared.faults.Rule.TheVariants.{HeightLow, HeightOver, CodeLeft, HeightsDiffer}
-use Rattle.stages.specs.declared.heights.Demand.{Demand}
-use Rattle.stages.specs.Examination.{Work, demand_of, height_after, noted, visits, examines, turn, goes, runs, examined}
+use Rattle.values.specs.declared.faults.Rule.TheVariants.{HeightLow, HeightOver, FallsOffEnd, HeightsDiffer}
+use Rattle.stages.specs.declared.heights.Transfer.{Transfer}
+use Rattle.stages.specs.Examination.{Work, transfer_of, height_after, noted, visits, examines, turn, goes, runs, examined}
 
 -- how many places have no height yet
 abbrev pub blanks : List ℕ → ℕ
@@ -86,7 +86,7 @@ start code limit hs ws h l = record {
 pub record Taken (code : List ℕ) (limit : ℕ) (R : Result (List ℕ) Fault) (hs ws : List ℕ) (n p : ℕ) : Type 0 where
   pub fuel : ℕ
   pub enough : n + blanks hs ≤ fuel
-  pub same : and_then (examines (length code) limit p (get_or hs (p / 2) 0) (demand_of code p) (work hs ws n)) (runs code limit fuel) ≡ R
+  pub same : and_then (examines (length code) limit p (get_or hs (p / 2) 0) (transfer_of code p) (work hs ws n)) (runs code limit fuel) ≡ R
   pub ready : Ready hs ws n
   pub spare : n + blanks hs < length hs
 
@@ -125,11 +125,11 @@ pub record Turned (code : List ℕ) (limit : ℕ) (R : Result (List ℕ) Fault) 
   pub ready : Ready hs ws n
   pub spare : n + blanks hs < length hs
 
-module _ {code : List ℕ} {limit : ℕ} {R : Result (List ℕ) Fault} {hs ws : List ℕ} {n p : ℕ} (t : Taken code limit R hs ws n p) (d : Demand) (is : d ≡ demand_of code p) where
+module _ {code : List ℕ} {limit : ℕ} {R : Result (List ℕ) Fault} {hs ws : List ℕ} {n p : ℕ} (t : Taken code limit R hs ws n p) (d : Transfer) (is : d ≡ transfer_of code p) where
   tested : (x : Result Work Fault) → x ≡ examines (length code) limit p (get_or hs (p / 2) 0) d (work hs ws n) → and_then x (runs code limit t.fuel) ≡ R
   tested x e =
       ap (λ (y : Result Work Fault). and_then y (runs code limit t.fuel)) e
-      ∙ ap (λ (d : Demand). and_then (examines (length code) limit p (get_or hs (p / 2) 0) d (work hs ws n)) (runs code limit t.fuel)) is ∙ t.same
+      ∙ ap (λ (d : Transfer). and_then (examines (length code) limit p (get_or hs (p / 2) 0) d (work hs ws n)) (runs code limit t.fuel)) is ∙ t.same
 
   pub low : get_or hs (p / 2) 0 < d.effect.takes → Err (fault HeightLow p) ≡ R
   low h = tested (Err (fault HeightLow p)) (sym (cond-true (ltb (get_or hs (p / 2) 0) d.effect.takes) _ _ (lt-ltb _ _ h)))
@@ -180,7 +180,7 @@ module _ {l p a : ℕ} {ss : List (Option ℕ)} {i : ℕ} {w₀ : Work} {c₀ : 
   skip h e = record { same = next None h e; count = v.count; ready = v.ready; spare = v.spare }
 
   module _ (s : ℕ) (h : i < length ss) (e : get_or ss i None ≡ Some s) where
-    pub past : l ≤ s → Err (fault CodeLeft p) ≡ visits l p a ss w₀
+    pub past : l ≤ s → Err (fault FallsOffEnd p) ≡ visits l p a ss w₀
     past q = sym (cond-true (leb l s) _ _ (le-leb _ _ q)) ∙ next (Some s) h e
 
     within : s < l → cond (eqb (get_or hs (s / 2) 0) 255) (visits l p a (drop (i + 1) ss) (noted s a (work hs ws n))) (cond (eqb (get_or hs (s / 2) 0) a) (visits l p a (drop (i + 1) ss) (work hs ws n)) (Err (fault HeightsDiffer s))) ≡ visits l p a ss w₀

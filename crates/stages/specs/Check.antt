@@ -7,7 +7,7 @@ use Rattle.hosts.specs.Meaning.{Marks}
 use Rattle.parcels.specs.Layouts.{limit_of}
 use Rattle.parcels.specs.Literals.{first_wrong}
 use Rattle.parcels.specs.Parts.{Parts, parts_of}
-use Rattle.stages.specs.Encoding.{Setting, setting}
+use Rattle.stages.specs.Encoding.{Context, context}
 use Rattle.stages.specs.Sweep.{encoding_fault}
 use Rattle.stages.specs.Examination.{examined, greatest}
 
@@ -21,18 +21,18 @@ list_tests n h w = test ListShort 0 (nat_lt h n || nat_lt w n) ∷ []
 
 -- the first fault of the stages literals and lists, over lists of h and w entries
 abbrev pub admission_fault : Marks → Parts → ℕ → ℕ → Option Fault
-admission_fault m p h w = or_else (first_wrong p.literals p.layout.literals (length m.bindings)) (first (list_tests (pairs p.code) h w))
+admission_fault m p h w = or_else (first_wrong p.literals p.layout.literal_count (length m.bindings)) (first (list_tests (pairs p.code) h w))
 
 -- the stages header, flags, literals and lists: the parcel taken apart, or the first fault
 abbrev pub admitted : Marks → List ℕ → ℕ → ℕ → Result Parts Fault
 admitted m b h w = and_then (parts_of b) (λ p. unless (admission_fault m p h w) p)
 
 -- the same stages: what the rules look at from then on
-abbrev pub case_of : Marks → Bool → List ℕ → ℕ → ℕ → Result Setting Fault
-case_of m t b h w = and_then (admitted m b h w) (λ p. Ok (setting p m t))
+abbrev pub context_admitted : Marks → Bool → List ℕ → ℕ → ℕ → Result Context Fault
+context_admitted m t b h w = and_then (admitted m b h w) (λ p. Ok (context p m t))
 
 -- the stages encoding and heights: the height bytes, or the first fault
-abbrev pub judged : Setting → Result (List ℕ) Fault
+abbrev pub judged : Context → Result (List ℕ) Fault
 judged x =
     and_then (unless (encoding_fault x) x.parts)
     (λ p. examined p.code (limit_of p.layout) (replicate (pairs p.code) 255))
@@ -60,7 +60,7 @@ concluded n hs ws r = record { verdict = verdict_of r; heights = heights_of n r 
 -- a fault of the stages before leaves the lists
 abbrev pub answered : Marks → Bool → List ℕ → List ℕ → Result Parts Fault → Checked
 answered m t hs ws (Err f) = record { verdict = Err f; heights = hs; waiting = ws }
-answered m t hs ws (Ok p) = concluded (pairs p.code) hs ws (judged (setting p m t))
+answered m t hs ws (Ok p) = concluded (pairs p.code) hs ws (judged (context p m t))
 
 -- the check of a parcel b over a host with marks m, trusted or not, with the lists hs and ws
 abbrev pub checked : Marks → Bool → List ℕ → List ℕ → List ℕ → Checked

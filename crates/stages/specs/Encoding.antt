@@ -23,14 +23,14 @@ use Rattle.stages.specs.Operands.{operand_wrong}
 use Rattle.stages.specs.declared.encoding.Site.{Site}
 
 -- what the encoding rules look at: the parcel, the host's marks, and whether the parcel is trusted
-pub record Setting : Type 0 where
+pub record Context : Type 0 where
   pub parts : Parts
   pub marks : Marks
   pub trusted : Bool
 
 -- a setting out of its parts
-abbrev pub setting : Parts → Marks → Bool → Setting
-setting p m t = record { parts = p; marks = m; trusted = t }
+abbrev pub context : Parts → Marks → Bool → Context
+context p m t = record { parts = p; marks = m; trusted = t }
 
 -- a clean block: chain use 0
 abbrev pub clean : CodeKind → Bool
@@ -124,7 +124,7 @@ closes (End e) = false
 closes Line = false
 
 -- the rules of an instruction with a known opcode, in order
-abbrev pub operation_tests : Setting → Site → Operation → List Test
+abbrev pub operation_tests : Context → Site → Operation → List Test
 operation_tests x s o =
     let a = s.instruction.argument in
     test OperandWrong s.place (operand_wrong x.parts (length x.marks.variables) a o)
@@ -136,10 +136,10 @@ operation_tests x s o =
     ∷ []
 
 -- the rules of an instruction: its opcode is in the table, and then the rules of its operation
-abbrev pub site_tests : Setting → Site → Option Operation → List Test
+abbrev pub site_tests : Context → Site → Option Operation → List Test
 site_tests x s None = test OpcodeUnknown s.place true ∷ []
 site_tests x s (Some o) = operation_tests x s o
 
 -- the fault of an instruction where it stands
-abbrev pub site_fault : Setting → Site → Option Fault
+abbrev pub site_fault : Context → Site → Option Fault
 site_fault x s = first (site_tests x s (operation_of s.instruction.opcode))

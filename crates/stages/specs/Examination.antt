@@ -3,33 +3,33 @@ use Rattle.std.specs.Prelude.{ℕ, zero, suc, ◌+◌, ◌*◌, ◌/◌, max, co
 use Rattle.values.specs.Faults.{fault}
 use Rattle.values.specs.Order.{and_then}
 use Rattle.values.specs.declared.faults.Fault.{Fault}
-use Rattle.values.specs.declared.faults.Rule.TheVariants.{HeightLow, HeightOver, CodeLeft, HeightsDiffer}
+use Rattle.values.specs.declared.faults.Rule.TheVariants.{HeightLow, HeightOver, FallsOffEnd, HeightsDiffer}
 use Rattle.parcels.specs.Reading.{Reading, read_at}
 use Rattle.parcels.specs.Opcodes.{operation_of, effect_of, after, flow_of, successors_of}
 use Rattle.parcels.specs.declared.opcodes.Operation.{Operation}
 use Rattle.parcels.specs.declared.reading.Instruction.{Instruction}
-use Rattle.stages.specs.declared.heights.Demand.{Demand}
+use Rattle.stages.specs.declared.heights.Transfer.{Transfer}
 
 -- what an instruction that cannot be read asks; the encoding stage leaves none
-abbrev pub nothing : Demand
+abbrev pub nothing : Transfer
 nothing = record { effect = record { takes = 0; leaves = 0 }; to = None ∷ None ∷ [] }
 
 -- what an instruction asks: the cells that it takes and leaves, and its successors
-abbrev pub demanded : List ℕ → ℕ → Instruction → Option Operation → Demand
-demanded code next i None = nothing
-demanded code next i (Some o) = record { effect = effect_of o i; to = successors_of code (flow_of o) next i.argument }
+abbrev pub transfer_by : List ℕ → ℕ → Instruction → Option Operation → Transfer
+transfer_by code next i None = nothing
+transfer_by code next i (Some o) = record { effect = effect_of o i; to = successors_of code (flow_of o) next i.argument }
 
 -- what is read at p asks
-abbrev pub demand_read : List ℕ → ℕ → Reading → Demand
-demand_read code p (Err e) = nothing
-demand_read code p (Ok r) = demanded code (p + 2 * r.0.pairs) r.0 (operation_of r.0.opcode)
+abbrev pub transfer_read : List ℕ → ℕ → Reading → Transfer
+transfer_read code p (Err e) = nothing
+transfer_read code p (Ok r) = transfer_by code (p + 2 * r.0.pairs) r.0 (operation_of r.0.opcode)
 
 -- what the instruction at p asks
-abbrev pub demand_of : List ℕ → ℕ → Demand
-demand_of code p = demand_read code p (read_at code p)
+abbrev pub transfer_of : List ℕ → ℕ → Transfer
+transfer_of code p = transfer_read code p (read_at code p)
 
 -- the height after what is asked at height h
-abbrev pub height_after : Demand → ℕ → ℕ
+abbrev pub height_after : Transfer → ℕ → ℕ
 height_after d = after d.effect
 
 -- the height byte of every pair, 255 where there is no height yet, and the waiting places, the newest first
@@ -50,12 +50,12 @@ abbrev pub visits : ℕ → ℕ → ℕ → List (Option ℕ) → Work → Resul
 visits l p a [] w = Ok w
 visits l p a (None ∷ ss) w = visits l p a ss w
 visits l p a (Some s ∷ ss) w =
-    cond (nat_le l s) (Err (fault CodeLeft p))
+    cond (nat_le l s) (Err (fault FallsOffEnd p))
     (cond (height_at w s == 255) (visits l p a ss (noted s a w))
     (cond (height_at w s == a) (visits l p a ss w) (Err (fault HeightsDiffer s))))
 
 -- place p is examined at height h by what its instruction asks
-abbrev pub examines : ℕ → ℕ → ℕ → ℕ → Demand → Work → Result Work Fault
+abbrev pub examines : ℕ → ℕ → ℕ → ℕ → Transfer → Work → Result Work Fault
 examines l limit p h d w =
     cond (nat_lt h d.effect.takes) (Err (fault HeightLow p))
     (cond (nat_lt limit (height_after d h)) (Err (fault HeightOver p))
@@ -63,7 +63,7 @@ examines l limit p h d w =
 
 -- one turn at the newest waiting place p, with the rest waiting
 abbrev pub turn : List ℕ → ℕ → ℕ → Work → Result Work Fault
-turn code limit p w = examines (length code) limit p (height_at w p) (demand_of code p) w
+turn code limit p w = examines (length code) limit p (height_at w p) (transfer_of code p) w
 
 -- the heights once none waits, or the first fault, by further turns
 abbrev pub goes : (ℕ → Work → Result (List ℕ) Fault) → List ℕ → List ℕ → Result (List ℕ) Fault

@@ -1,6 +1,6 @@
 pub mod Operands
 pub mod Encoding
-pub mod Cases
+pub mod Contexts
 pub mod Sweep
 pub mod Examination
 pub mod Check

@@ -48,14 +48,14 @@ block (Some (Binding n)) = false
 abbrev pub operand_wrong : Parts → ℕ → ℕ → Operation → Bool
 operand_wrong p vs a Send = false
 operand_wrong p vs a (SendSelector s) = not (selects (literal p.literals (a / 256)) (a % 256))
-operand_wrong p vs a (Push source.Cell) = nat_le (p.layout.arguments + p.layout.locals) a
+operand_wrong p vs a (Push source.Cell) = nat_le (p.layout.argument_count + p.layout.local_count) a
 operand_wrong p vs a (Push source.Binding) = not (binds (literal p.literals a))
 operand_wrong p vs a (Push source.Variable) = nat_le vs a
 operand_wrong p vs a (Push source.Integer) = nat_le 536870912 a
 operand_wrong p vs a (Push source.Special) = nat_le 3 a
 operand_wrong p vs a (Push source.Literal) = not (constant (literal p.literals a))
 operand_wrong p vs a (Push source.Receiver) = false
-operand_wrong p vs a (Store target.Cell) = nat_le (p.layout.arguments + p.layout.locals) a
+operand_wrong p vs a (Store target.Cell) = nat_le (p.layout.argument_count + p.layout.local_count) a
 operand_wrong p vs a (Store target.Binding) = not (binds (literal p.literals a))
 operand_wrong p vs a (Store target.Variable) = nat_le vs a
 operand_wrong p vs a (Jump d) = false

@@ -12,7 +12,7 @@ use Rattle.parcels.specs.declared.opcodes.Source.TheVariants as source
 use Rattle.parcels.specs.declared.opcodes.Operation.{Operation}
 use Rattle.parcels.specs.declared.opcodes.Operation.TheVariants.{Send, SendSelector, Push, Store, Jump, Branch, Pop, Duplicate, Close, End, Line}
 use Rattle.stages.specs.Operands.{block}
-use Rattle.stages.specs.Encoding.{Setting, site_fault}
+use Rattle.stages.specs.Encoding.{Context, site_fault}
 use Rattle.stages.specs.declared.encoding.Site.{Site}
 
 -- whether an operation pushes a literal
@@ -45,12 +45,12 @@ abbrev pub site : ℕ → Bool → Instruction → Site
 site p b i = record { place = p; instruction = i; next = p + 2 * i.pairs; after_block = b }
 
 -- the fault of what is read at p, or what is found further on
-abbrev pub turned : Setting → (Bool → ℕ → Option Fault) → Bool → ℕ → Reading → Option Fault
+abbrev pub turned : Context → (Bool → ℕ → Option Fault) → Bool → ℕ → Reading → Option Fault
 turned x further b p (Err e) = Some (fault (unreadable_rule e) p)
 turned x further b p (Ok r) = or_else (site_fault x (site p b r.0)) (further (pushes_block x.parts.literals r.0) (p + 2 * r.0.pairs))
 
 -- the first fault of the instructions from p on, of which there are at most n
-abbrev pub swept : Setting → ℕ → Bool → ℕ → Option Fault
+abbrev pub swept : Context → ℕ → Bool → ℕ → Option Fault
 swept x zero b p = None
 swept x (suc n) b p = cond (nat_le (length x.parts.code) p) None (turned x (swept x n) b p (read_at x.parts.code p))
 
@@ -59,7 +59,7 @@ abbrev pub length_tests : ℕ → List Test
 length_tests l = test CodeCut 0 (l == 0) ∷ test CodeCut (l - 1) (l % 2 == 1) ∷ []
 
 -- the first fault of the encoding stage
-abbrev pub encoding_fault : Setting → Option Fault
+abbrev pub encoding_fault : Context → Option Fault
 encoding_fault x =
     let l = length x.parts.code in
     or_else (first (length_tests l)) (swept x l false 0)

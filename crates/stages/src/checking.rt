@@ -1,17 +1,17 @@
 // The check of a parcel.
 ghost use Rattle.std.specs.Prelude.{◌≡◌, ◌*◌, ◌/◌, ◌≤◌, length, replicate, IfOk};
 ghost use Rattle.hosts.specs.Meaning.{marks_of};
-ghost use Rattle.stages.specs.Cases.{setting_of, seen};
+ghost use Rattle.stages.specs.Contexts.{context_of, seen};
 ghost use Rattle.stages.specs.Examination.{outcome};
-ghost use Rattle.stages.specs.Check.{pairs, judged, verdict_of, heights_of, case_of, checked};
+ghost use Rattle.stages.specs.Check.{pairs, judged, verdict_of, heights_of, context_admitted, checked};
 
-use crate::cases::Case;
+use crate::contexts::Context;
 use crate::heights::{examine, greatest_height};
 use hosts::{Host, Row};
 use parcels::{Parcel, check_literals};
 use values::{Fault, Rule};
 
-impl<'a, H: Host> Case<'a, H> {
+impl<'a, H: Host> Context<'a, H> {
     // The case of a parcel's bytes, or the first fault of the stages header, flags, literals and lists, over a list of height bytes and a
     // list of waiting places with so many entries.
     fn admit(
@@ -20,21 +20,21 @@ impl<'a, H: Host> Case<'a, H> {
         trusted: bool,
         height_entries: usize,
         waiting_entries: usize,
-    ) -> Result<Case<'a, H>, Fault>
-        ensures answer { seen H.means result ≡ case_of (marks_of (H.means host.now)) trusted bytes.now height_entries waiting_entries }
+    ) -> Result<Context<'a, H>, Fault>
+        ensures answer { seen H.means result ≡ context_admitted (marks_of (H.means host.now)) trusted bytes.now height_entries waiting_entries }
         ensures fits { IfOk result (λ c. (pairs c.parcel.code.now ≤ height_entries) × (pairs c.parcel.code.now ≤ waiting_entries)) }
     {
         let parcel = Parcel::read(bytes)?;
         check_literals(
             parcel.literals,
-            parcel.layout.literals,
+            parcel.layout.literal_count,
             host.count(Row::Bindings),
         )?;
         let pairs = parcel.code.len() / 2;
         if height_entries < pairs || waiting_entries < pairs {
             return Err(Rule::ListShort.at(0));
         }
-        Ok(Case {
+        Ok(Context {
             host,
             parcel,
             trusted,
@@ -45,7 +45,7 @@ impl<'a, H: Host> Case<'a, H> {
     fn check_code(&self, heights: &mut [u8], waiting: &mut [u16]) -> Result<(), Fault>
         requires heights { length heights.old ≡ pairs self.now.parcel.code.now }
         requires waiting { length waiting.old ≡ pairs self.now.parcel.code.now }
-        ensures { outcome result heights.new ≡ judged (setting_of H.means self.now) }
+        ensures { outcome result heights.new ≡ judged (context_of H.means self.now) }
     {
         self.check_encoding()?;
         heights.fill(255);
@@ -62,8 +62,8 @@ impl<'a, H: Host> Case<'a, H> {
     fn judge(&self, heights: &mut [u8], waiting: &mut [u16]) -> Result<u8, Fault>
         requires heights { length heights.old ≡ pairs self.now.parcel.code.now }
         requires waiting { length waiting.old ≡ pairs self.now.parcel.code.now }
-        ensures verdict { result ≡ verdict_of (judged (setting_of H.means self.now)) }
-        ensures heights { heights.new ≡ heights_of (pairs self.now.parcel.code.now) (judged (setting_of H.means self.now)) }
+        ensures verdict { result ≡ verdict_of (judged (context_of H.means self.now)) }
+        ensures heights { heights.new ≡ heights_of (pairs self.now.parcel.code.now) (judged (context_of H.means self.now)) }
         ensures waiting { waiting.new ≡ replicate (pairs self.now.parcel.code.now) 0 }
     {
         let checked = self.check_code(heights, waiting);
@@ -92,7 +92,7 @@ pub fn pass_stages<H: Host>(
     ensures heights { heights.new ≡ (checked (marks_of (H.means host.now)) trusted bytes.now heights.old waiting.old).heights }
     ensures waiting { waiting.new ≡ (checked (marks_of (H.means host.now)) trusted bytes.now heights.old waiting.old).waiting }
 {
-    let case = Case::admit(host, bytes, trusted, heights.len(), waiting.len())?;
+    let case = Context::admit(host, bytes, trusted, heights.len(), waiting.len())?;
     let pairs = case.parcel.code.len() / 2;
     case.judge(&mut heights[..pairs], &mut waiting[..pairs])
 }

@@ -1,12 +1,12 @@
 // The encoding rules, at each instruction in turn.
 ghost use Rattle.std.specs.Prelude.{◌≡◌, not, ◌&&◌, length};
 ghost use Rattle.parcels.specs.Parts.{parts};
-ghost use Rattle.stages.specs.Cases.{setting_of};
+ghost use Rattle.stages.specs.Contexts.{context_of};
 ghost use Rattle.stages.specs.Operands.{selects, binds, constant, block, operand_wrong};
 ghost use Rattle.stages.specs.Encoding.{asks_self, names_trusted, stores_trusted, lands_wrong, operation_tests, site_fault};
 ghost use Rattle.values.specs.Order.{first, unless};
 
-use crate::cases::Case;
+use crate::contexts::Context;
 use hosts::{Host, Row};
 use parcels::{
     CodeKind, Direction, Ending, Flow, Instruction, Literal, Operation, Source, Target, landing,
@@ -33,7 +33,7 @@ const RETURNING: u8 = 31;
 fn is_selector(literal: Option<Literal>, count: u32) -> bool
     ensures { result ≡ selects literal count }
 {
-    matches!(literal, Some(Literal::Selector { arguments, .. }) if arguments as u32 == count)
+    matches!(literal, Some(Literal::Selector { argument_count, .. }) if argument_count as u32 == count)
 }
 
 // Whether a literal is a binding.
@@ -79,10 +79,10 @@ fn lands_wrong(code: &[u8], next: usize, a: u32, flow: Flow) -> bool
     landing(code, direction, next, a).is_none()
 }
 
-impl<H: Host> Case<'_, H> {
+impl<H: Host> Context<'_, H> {
     // Whether an operand breaks the rule of its operation.
     fn operand_wrong(&self, operation: Operation, a: u32) -> bool
-        ensures { result ≡ operand_wrong (parts self.now.parcel) (length (setting_of H.means self.now).marks.variables) a operation }
+        ensures { result ≡ operand_wrong (parts self.now.parcel) (length (context_of H.means self.now).marks.variables) a operation }
     {
         let literals = self.parcel.literals;
         match operation {
@@ -103,7 +103,7 @@ impl<H: Host> Case<'_, H> {
 
     // Whether a literal names a trusted binding.
     fn names_trusted(&self, literal: Option<Literal>) -> bool
-        ensures { result ≡ names_trusted (setting_of H.means self.now).marks.bindings literal }
+        ensures { result ≡ names_trusted (context_of H.means self.now).marks.bindings literal }
     {
         match literal {
             Some(Literal::Binding(n)) => self
@@ -116,7 +116,7 @@ impl<H: Host> Case<'_, H> {
 
     // Whether an instruction stores to a trusted cell.
     fn stores_trusted(&self, operation: Operation, a: u32) -> bool
-        ensures { result ≡ stores_trusted (setting_of H.means self.now).marks (setting_of H.means self.now).parts.literals a operation }
+        ensures { result ≡ stores_trusted (context_of H.means self.now).marks (context_of H.means self.now).parts.literals a operation }
     {
         match operation {
             Operation::Store(Target::Variable) => self
@@ -133,7 +133,7 @@ impl<H: Host> Case<'_, H> {
 
     // Checks the rules of an operation at an instruction, in order.
     fn check_operation(&self, site: Site, operation: Operation) -> Result<(), Fault>
-        ensures { result ≡ unless (first (operation_tests (setting_of H.means self.now) site operation)) tt }
+        ensures { result ≡ unless (first (operation_tests (context_of H.means self.now) site operation)) tt }
     {
         let a = site.instruction.argument;
         let place = site.place;
@@ -163,7 +163,7 @@ impl<H: Host> Case<'_, H> {
 
     // Checks the rules of an instruction where it stands, in order.
     pub fn check_site(&self, site: Site) -> Result<(), Fault>
-        ensures { result ≡ unless (site_fault (setting_of H.means self.now) site) tt }
+        ensures { result ≡ unless (site_fault (context_of H.means self.now) site) tt }
     {
         let Ok(operation) = Operation::try_from(site.instruction.opcode) else {
             return Err(Rule::OpcodeUnknown.at(site.place));

@@ -1,20 +1,20 @@
 // The heights stage: the places in the order in which they wait.
 ghost use Rattle.std.specs.Prelude.{◌≡◌, ◌*◌, ◌<◌, ◌≤◌, length};
-ghost use Rattle.stages.specs.Examination.{demand_of, examined, outcome, greatest};
+ghost use Rattle.stages.specs.Examination.{transfer_of, examined, outcome, greatest};
 
 use parcels::{Effect, Operation, Reader};
 use values::{Fault, Rule, Stack};
 
 // What an instruction asks: the working cells that it takes and leaves, and its successors.
 #[derive(Clone, Copy)]
-pub struct Demand {
+pub struct Transfer {
     pub effect: Effect,
     pub to: [Option<usize>; 2],
 }
 
 // What is asked where nothing can be read. The encoding stage leaves no such place, so that an Option would have
 // the loop below answer for a case that never comes.
-const NOTHING: Demand = Demand {
+const NO_TRANSFER: Transfer = Transfer {
     effect: Effect {
         takes: 0,
         leaves: 0,
@@ -23,17 +23,17 @@ const NOTHING: Demand = Demand {
 };
 
 // What the instruction at a place asks.
-fn demand_at(code: &[u8], place: usize) -> Demand
-    ensures { result ≡ demand_of code.now place }
+fn transfer_at(code: &[u8], place: usize) -> Transfer
+    ensures { result ≡ transfer_of code.now place }
 {
     let mut reader = Reader::at(code, place);
     let Ok((instruction, _)) = reader.advance() else {
-        return NOTHING;
+        return NO_TRANSFER;
     };
     let Ok(operation) = Operation::try_from(instruction.opcode) else {
-        return NOTHING;
+        return NO_TRANSFER;
     };
-    Demand {
+    Transfer {
         effect: operation.effect(instruction),
         to: operation
             .flow()
@@ -79,7 +79,7 @@ pub(crate) fn examine(
         };
         let place = newest as usize;
         let h = heights[place / 2];
-        let demand = demand_at(code, place);
+        let demand = transfer_at(code, place);
         if (h as u16) < demand.effect.takes {
             break Err(Rule::HeightLow.at(place));
         }
@@ -92,7 +92,7 @@ pub(crate) fn examine(
         for to in demand.to {
             if let Some(s) = to {
                 if s >= code.len() {
-                    break 'examine Err(Rule::CodeLeft.at(place));
+                    break 'examine Err(Rule::FallsOffEnd.at(place));
                 }
                 if heights[s / 2] == 255 {
                     heights[s / 2] = height;

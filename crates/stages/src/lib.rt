@@ -1,7 +1,7 @@
 // The stages of a check: every rule in the fixed order, and the heights of the places.
 #![tactic(auto)]
 
-mod cases;
+mod contexts;
 mod checking;
 mod encoding;
 mod heights;

@@ -1,10 +1,10 @@
 // The encoding stage: the instructions in turn.
 ghost use Rattle.std.specs.Prelude.{◌≡◌, ◌%◌, ◌<◌, false, length, OnOk};
-ghost use Rattle.stages.specs.Cases.{setting_of};
+ghost use Rattle.stages.specs.Contexts.{context_of};
 ghost use Rattle.stages.specs.Sweep.{pushes_block, swept, encoding_fault};
 ghost use Rattle.values.specs.Order.{unless};
 
-use crate::cases::Case;
+use crate::contexts::Context;
 use crate::encoding::{Site, is_block};
 use hosts::Host;
 use parcels::{Instruction, Operation, Reader, Source, literal_at};
@@ -20,10 +20,10 @@ fn pushes_block(literals: &[u8], instruction: Instruction) -> bool
     ) && is_block(literal_at(literals, instruction.argument))
 }
 
-impl<H: Host> Case<'_, H> {
+impl<H: Host> Context<'_, H> {
     // Checks the rules of the instructions in turn. The reader keeps the place; an iterator would hide it, and a fault carries it.
     fn sweep(&self) -> Result<(), Fault>
-        ensures { result ≡ unless (swept (setting_of H.means self.now) (length self.now.parcel.code.now) false 0) tt }
+        ensures { result ≡ unless (swept (context_of H.means self.now) (length self.now.parcel.code.now) false 0) tt }
     {
         let mut reader = Reader::at(self.parcel.code, 0);
         let mut after_block = false;
@@ -44,7 +44,7 @@ impl<H: Host> Case<'_, H> {
     // Checks the rules of the encoding stage, in order.
     pub fn check_encoding(&self) -> Result<(), Fault>
         ensures whole { OnOk result ((0 < length self.now.parcel.code.now) × (length self.now.parcel.code.now % 2 ≡ 0)) }
-        ensures answer { result ≡ unless (encoding_fault (setting_of H.means self.now)) tt }
+        ensures answer { result ≡ unless (encoding_fault (context_of H.means self.now)) tt }
     {
         let length = self.parcel.code.len();
         if length == 0 {

@@ -1,7 +1,7 @@
 -- The number and the stage of every rule.
 use Rattle.std.specs.Prelude.{ℕ, List, ◌++◌, codes, decimal}
 use Rattle.values.specs.declared.faults.Rule.{Rule}
-use Rattle.values.specs.declared.faults.Rule.TheVariants.{HeaderShort, KindUnknown, LiteralsTooMany, CodeTooLong, LengthWrong, FlagsReserved, LocalsOverSlots, LiteralWrong, BindingMissing, ListShort, CodeCut, ExtensionFourth, OpcodeUnknown, OperandWrong, CleanBlock, StoreTrusted, ReturnForeign, LandingWrong, ClosureAlone, HeightLow, HeightOver, CodeLeft, HeightsDiffer, ArgumentsDiffer, FrameShort, RunNotLive, CountsDiffer, StepFrameShort, CellMissing, FileShort, CellsTooMany, FileLength, CellWrong}
+use Rattle.values.specs.declared.faults.Rule.TheVariants.{HeaderShort, KindUnknown, LiteralsTooMany, CodeTooLong, LengthWrong, FlagsReserved, LocalsOverSlots, LiteralWrong, BindingMissing, ListShort, CodeCut, ExtensionFourth, OpcodeUnknown, OperandWrong, CleanBlock, StoreTrusted, ReturnForeign, LandingWrong, ClosureAlone, HeightLow, HeightOver, FallsOffEnd, HeightsDiffer, ArgumentsDiffer, FrameShort, RunNotLive, CountsDiffer, StepFrameShort, CellMissing, FileShort, CellsTooMany, FileLength, CellWrong}
 use Rattle.values.specs.declared.faults.Stage.{Stage}
 use Rattle.values.specs.declared.faults.Stage.TheVariants.{Header, Flags, Literals, Lists, Encoding, Heights, Opening, Step, Host, WeekFile}
 use Rattle.values.specs.declared.faults.Fault.{Fault}
@@ -29,7 +29,7 @@ number_of LandingWrong = 19
 number_of ClosureAlone = 20
 number_of HeightLow = 21
 number_of HeightOver = 22
-number_of CodeLeft = 23
+number_of FallsOffEnd = 23
 number_of HeightsDiffer = 24
 number_of ArgumentsDiffer = 25
 number_of FrameShort = 26
@@ -65,7 +65,7 @@ stage_of LandingWrong = Encoding
 stage_of ClosureAlone = Encoding
 stage_of HeightLow = Heights
 stage_of HeightOver = Heights
-stage_of CodeLeft = Heights
+stage_of FallsOffEnd = Heights
 stage_of HeightsDiffer = Heights
 stage_of ArgumentsDiffer = Opening
 stage_of FrameShort = Opening

@@ -43,7 +43,7 @@ pub enum Rule {
     ClosureAlone,
     HeightLow,
     HeightOver,
-    CodeLeft,
+    FallsOffEnd,
     HeightsDiffer,
     ArgumentsDiffer,
     FrameShort,
@@ -111,7 +111,7 @@ impl Fault {
             Rule::ClosureAlone => 20,
             Rule::HeightLow => 21,
             Rule::HeightOver => 22,
-            Rule::CodeLeft => 23,
+            Rule::FallsOffEnd => 23,
             Rule::HeightsDiffer => 24,
             Rule::ArgumentsDiffer => 25,
             Rule::FrameShort => 26,
@@ -155,7 +155,7 @@ impl Fault {
             | Rule::ReturnForeign
             | Rule::LandingWrong
             | Rule::ClosureAlone => Stage::Encoding,
-            Rule::HeightLow | Rule::HeightOver | Rule::CodeLeft | Rule::HeightsDiffer =>
+            Rule::HeightLow | Rule::HeightOver | Rule::FallsOffEnd | Rule::HeightsDiffer =>
                 Stage::Heights,
             Rule::ArgumentsDiffer | Rule::FrameShort => Stage::Opening,
             Rule::RunNotLive | Rule::CountsDiffer | Rule::StepFrameShort => Stage::Step,

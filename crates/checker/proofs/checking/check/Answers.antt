@@ -2,8 +2,8 @@ use mathlib.Core.Path.{sym, ap, subst}
 use lib.ListN.{length}
 use Rattle.hosts.specs.Meaning.{Marks, marks_of}
 use Rattle.stages.specs.Check.{checked}
-use Rattle.paths.specs.Verdicts.{VerdictMeans}
-use Rattle.paths.proofs.Verdict.{every_verdict_means}
+use Rattle.soundness.specs.Verdicts.{VerdictMeans}
+use Rattle.soundness.proofs.Verdict.{every_verdict_means}
 use Rattle.checker.proofs.checking.check.Goals as goal
 
 pub returns : goal.returns

@@ -1,5 +1,5 @@
 use Rattle.std.proofs.Common.{sym, ◌∙◌, subst}
-use Rattle.scripts.specs.Running.{Answer, Steps}
+use Rattle.semantics.specs.RunView.{Answer, Steps}
 use Rattle.engine.specs.View.{view}
 use Rattle.planning.specs.Keeping.{none, more}
 use Rattle.planning.proofs.Leading.{stepped, unrefused, goes_further}

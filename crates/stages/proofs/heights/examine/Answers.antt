@@ -21,9 +21,9 @@ taken c =
 
 -- its successors are visited
 turned : (c : Else-after-limit)
-    → Turned c.args.code.now c.args.limit (examined c.args.code.now c.args.limit c.args.heights.now) c.in-Some.newest (height_after c.demand_at-demand.result (get_or c.examine.heights (c.in-Some.newest / 2) 0))
-    c.demand_at-demand.result.to c.examine.heights c.pop.new.self.cells.now c.pop.new.self.height
-turned c = visiting (taken (goal.at.Else-after-limit c).In-Some) c.demand_at-demand.result c.demand_at-demand.ensures c.if-h-demand.false (omega (arith, c.if-after-limit.false))
+    → Turned c.args.code.now c.args.limit (examined c.args.code.now c.args.limit c.args.heights.now) c.in-Some.newest (height_after c.transfer_at-demand.result (get_or c.examine.heights (c.in-Some.newest / 2) 0))
+    c.transfer_at-demand.result.to c.examine.heights c.pop.new.self.cells.now c.pop.new.self.height
+turned c = visiting (taken (goal.at.Else-after-limit c).In-Some) c.transfer_at-demand.result c.transfer_at-demand.ensures c.if-h-demand.false (omega (arith, c.if-after-limit.false))
 
 pub examine-preserved : goal.examine-preserved
 examine-preserved c = again (turned (goal.at.examine-preserved c).Else-after-limit) c.loop-to.invariant (omega arith)
@@ -36,22 +36,22 @@ returns-in_default c =
     none c.args.code.now c.args.limit _ _ _ _ s z
 
 pub returns-then-h-demand : goal.returns-then-h-demand
-returns-then-h-demand c = ap Err c.at.ensures ∙ low (taken (goal.at.returns-then-h-demand c).In-Some) c.demand_at-demand.result c.demand_at-demand.ensures c.if-h-demand.true
+returns-then-h-demand c = ap Err c.at.ensures ∙ low (taken (goal.at.returns-then-h-demand c).In-Some) c.transfer_at-demand.result c.transfer_at-demand.ensures c.if-h-demand.true
 
 pub returns-then-after-limit : goal.returns-then-after-limit
 returns-then-after-limit c =
     ap Err c.at-then-after-limit.ensures
-    ∙ high (taken (goal.at.returns-then-after-limit c).In-Some) c.demand_at-demand.result c.demand_at-demand.ensures c.if-h-demand.false (omega (arith, c.if-after-limit.true))
+    ∙ high (taken (goal.at.returns-then-after-limit c).In-Some) c.transfer_at-demand.result c.transfer_at-demand.ensures c.if-h-demand.false (omega (arith, c.if-after-limit.true))
 
 pub returns-then-s-code : goal.returns-then-s-code
 returns-then-s-code c =
-    let is : get_or c.demand_at-demand.result.to c.loop-to.to-index None ≡ Some c.in-Some-to.s = search rules in
+    let is : get_or c.transfer_at-demand.result.to c.loop-to.to-index None ≡ Some c.in-Some-to.s = search rules in
     ap Err c.at-then-s-code.ensures
     ∙ found (turned (goal.at.returns-then-s-code c).Else-after-limit) _ (past c.loop-to.invariant c.in-Some-to.s (grind arith) is c.if-s-code.true)
 
 pub returns-then-heights-s-2 : goal.returns-then-heights-s-2
 returns-then-heights-s-2 c =
-    let is : get_or c.demand_at-demand.result.to c.loop-to.to-index None ≡ Some c.in-Some-to.s = search rules in
+    let is : get_or c.transfer_at-demand.result.to c.loop-to.to-index None ≡ Some c.in-Some-to.s = search rules in
     ap Err c.at-then-heights-s-2.ensures
     ∙ found (turned (goal.at.returns-then-heights-s-2 c).Else-after-limit) _
     (other c.loop-to.invariant c.in-Some-to.s (grind arith) is c.if-s-code.false c.if-heights-s.false c.if-heights-s-2.true)
@@ -59,7 +59,7 @@ returns-then-heights-s-2 c =
 pub loop-to-preserved : goal.loop-to-preserved
 loop-to-preserved c =
     let v = c.loop-to.invariant in
-    let d = c.demand_at-demand.result in
+    let d = c.transfer_at-demand.result in
     let i : c.loop-to.to-index < length d.to = grind arith in
     elim c.match-to.branch [
       | in-Some-to+else-s-code+then-heights-s w ↦

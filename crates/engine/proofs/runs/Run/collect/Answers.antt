@@ -1,5 +1,5 @@
 use Rattle.std.proofs.Common.{refl, rules}
-use Rattle.histories.specs.Histories.{collects}
+use Rattle.safety.specs.Histories.{collects}
 use Rattle.engine.specs.View.{view}
 use Rattle.engine.proofs.runs.Run.collect.Goals as goal
 

@@ -4,13 +4,13 @@ use Rattle.parcels.specs.Opcodes.{effect_of, after, flow_of}
 use Rattle.parcels.specs.Reading.{read_at}
 use Rattle.parcels.specs.declared.opcodes.Effect.{Effect}
 use Rattle.stages.specs.Encoding.{lands_wrong}
-use Rattle.paths.specs.Paths.{Stands}
+use Rattle.soundness.specs.Paths.{InstructionAt}
 use Rattle.engine.proofs.Fetching.{readable, known, need, within, low, locals, operand, lands}
 use Rattle.engine.proofs.runs.Run.fetch.Goals as goal
 use Rattle.engine.proofs.runs.Run.fetch.Goals.{In-Ok-try_from}
 
 -- what is read at the place
-stands : (c : In-Ok-try_from) → Stands c.args.self.now.parcel.code.now c.args.self.now.place c.in-Ok.instruction c.in-Ok-try_from.operation
+stands : (c : In-Ok-try_from) → InstructionAt c.args.self.now.parcel.code.now c.args.self.now.place c.in-Ok.instruction c.in-Ok-try_from.operation
 stands c =
     let p = c.at-reader.ensures.place in
     let code = c.at-reader.ensures.code in
@@ -39,7 +39,7 @@ overflow_add-after c =
     let d = (goal.at.overflow_add-after c).In-Ok-try_from in
     let w = within (c.args.self.now.ready c.requires) (stands d) in
     let e = after_is d c.effect-effect.result c.effect-effect.ensures in
-    let slots : c.args.self.now.parcel.layout.slots < 256 = search rules in
+    let slots : c.args.self.now.parcel.layout.slot_count < 256 = search rules in
     let small : c.args.self.now.height - c.effect-effect.result.takes + c.effect-effect.result.leaves < 256 = omega (arith, w, e, slots) in
     search rules
 

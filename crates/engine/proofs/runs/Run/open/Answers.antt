@@ -3,10 +3,10 @@ use Rattle.values.specs.declared.kinds.Value.{Value}
 use Rattle.hosts.specs.Meaning.{Meaning, Sent}
 use Rattle.parcels.specs.Parts.{Parts, parts}
 use Rattle.stages.proofs.Exits.{passed_on}
-use Rattle.scripts.specs.Running.{Running}
-use Rattle.histories.specs.Opening.{Opened, opened}
-use Rattle.histories.specs.Histories.{CarriesOn, History, opens}
-use Rattle.histories.specs.Ready.{Ready}
+use Rattle.semantics.specs.RunView.{RunView}
+use Rattle.safety.specs.Opening.{Opened, opened}
+use Rattle.safety.specs.Histories.{ExtendsHistory, History, opens}
+use Rattle.safety.specs.Ready.{Ready}
 use Rattle.engine.specs.View.{view}
 use Rattle.engine.proofs.Accepting.{accepted_begins, same_parts, opened_by, opened_is}
 use Rattle.engine.proofs.runs.Run.open.Given.{Over}
@@ -22,9 +22,9 @@ begin-requires g c =
     (accepted_begins m c.args.trusted c.args.bytes.now c.args.heights.now c.args.waiting.now c.in_ok-top.top e)
 
 -- a history goes on by an opening
-on : {S : Type 0} (means : S → Meaning) (may : S → Sent → Value → S → Type 0) (s : S) (t : Bool) (b : List ℕ) (args f : List Value) (hs ws : List ℕ) (run run' : Running)
-    → (opened (means s) t b args f hs ws run).run ≡ run' → CarriesOn means may s run s (Some run')
-on means may s t b args f hs ws run run' e = λ s₀ rs k past held. subst (λ (r : Running). History means may s₀ s (set rs k (Some r))) e (opens past k run held t b args f hs ws)
+on : {S : Type 0} (means : S → Meaning) (may : S → Sent → Value → S → Type 0) (s : S) (t : Bool) (b : List ℕ) (args f : List Value) (hs ws : List ℕ) (run run' : RunView)
+    → (opened (means s) t b args f hs ws run).run ≡ run' → ExtendsHistory means may s run s (Some run')
+on means may s t b args f hs ws run run' e = λ s₀ rs k past held. subst (λ (r : RunView). History means may s₀ s (set rs k (Some r))) e (opens past k run held t b args f hs ws)
 
 -- what opening is
 abbrev said : (g : Over) → After-begin g → Opened

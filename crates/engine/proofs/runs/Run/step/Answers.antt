@@ -1,6 +1,6 @@
-use Rattle.histories.specs.Histories.{steps}
-use Rattle.histories.proofs.Lawful.{script_laws}
-use Rattle.histories.proofs.Safety.{every_history_is_safe}
+use Rattle.safety.specs.Histories.{steps}
+use Rattle.safety.proofs.Lawful.{script_laws}
+use Rattle.safety.proofs.Safety.{every_history_is_safe}
 use Rattle.engine.specs.View.{view}
 use Rattle.engine.proofs.runs.Run.step.Goals as goal
 

@@ -1,5 +1,5 @@
 use Rattle.std.proofs.Common.{sym, subst}
-use Rattle.scripts.specs.Running.{Running}
+use Rattle.semantics.specs.RunView.{RunView}
 use Rattle.engine.specs.Turns.{GoesReady}
 use Rattle.engine.specs.View.{view}
 use Rattle.engine.proofs.Leading.{led}
@@ -7,6 +7,6 @@ use Rattle.engine.proofs.runs.Run.step_once.Goals as goal
 
 pub settle-requires-clause-ready : goal.settle-requires-clause-ready
 settle-requires-clause-ready g c =
-    subst (λ (r : Running). GoesReady r c.in_ok-went.went) (sym c.in_ok-went.ensures.run)
+    subst (λ (r : RunView). GoesReady r c.in_ok-went.went) (sym c.in_ok-went.ensures.run)
     (led g.H.Host.means g.H.Host.may (view c.args.self.now) c.peek-next.result c.args.frame.now c.args.host.now c.in_ok-went.went c.perform.new.frame c.perform.new.host
     c.peek-next.ensures c.args.self.now.ready c.in_ok-went.ensures.went)

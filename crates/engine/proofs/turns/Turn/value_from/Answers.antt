@@ -2,7 +2,7 @@ use Rattle.std.proofs.Common.{rules, ◌≡◌, Some, sym, ap, ◌∙◌, arith,
 use Rattle.std.proofs.lemmas.Int.{ints, to_z-of_z}
 use Rattle.values.specs.Kinds.{integer}
 use Rattle.values.proofs.Smalls.{answered}
-use Rattle.scripts.specs.Scripts.{integer as pushed}
+use Rattle.semantics.specs.Scripts.{integer as pushed}
 use Rattle.engine.proofs.turns.Turn.value_from.Goals as goal
 
 pub returns-in-Integer : goal.returns-in-Integer

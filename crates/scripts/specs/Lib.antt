@@ -1,4 +1,0 @@
-pub mod Scripts
-pub mod Running
-pub mod Laws
-pub mod Sparing

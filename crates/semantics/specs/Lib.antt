@@ -1,0 +1,4 @@
+pub mod Scripts
+pub mod RunView
+pub mod Laws
+pub mod Sparing
