@@ -3,3 +3,4 @@ pub mod Literals
 pub mod Reading
 pub mod Opcodes
 pub mod Parts
+pub mod Instructions

@@ -6,6 +6,7 @@ use Rattle.values.specs.Kinds.{value_of}
 use Rattle.values.specs.Order.{Test, test, first, first_from}
 use Rattle.values.specs.declared.faults.Fault.{Fault}
 use Rattle.values.specs.declared.faults.Rule.TheVariants.{LiteralWrong, BindingMissing}
+use Rattle.values.specs.declared.kinds.Value.{Value}
 use Rattle.parcels.specs.declared.literals.Literal.{Literal}
 use Rattle.parcels.specs.declared.literals.Literal.TheVariants.{Constant, Selector, Binding}
 
@@ -16,6 +17,21 @@ literal_of d k n =
     (cond (not (d == 0)) None
     (cond (k == 8) (Some (Binding n))
     (cond (nat_lt 5 k) None (option_map Constant (value_of k n)))))
+
+-- the selector number of a literal that is a selector
+abbrev pub selector_of : Option Literal → Option ℕ
+selector_of (Some (Selector n c)) = Some n
+selector_of _ = None
+
+-- the binding number of a literal that is a binding
+abbrev pub binding_of : Option Literal → Option ℕ
+binding_of (Some (Binding n)) = Some n
+binding_of _ = None
+
+-- the value of a literal that is a value
+abbrev pub constant_of : Option Literal → Option Value
+constant_of (Some (Constant v)) = Some v
+constant_of _ = None
 
 -- the six bytes of literal k
 abbrev pub entry : List ℕ → ℕ → Option Literal

@@ -14,8 +14,8 @@ use Rattle.parcels.specs.declared.opcodes.Flow.{Flow}
 use Rattle.parcels.specs.declared.opcodes.Flow.TheVariants.{Follows, Jumps, Branches, Ends}
 
 -- the argument count of a message: 2 for message 17, 0 for 18 to 22, 1 for the others up to 24, and 0 beyond
-abbrev pub count_of : ℕ → ℕ
-count_of m = cond (m == 17) 2 (cond (nat_le 18 m && nat_le m 22) 0 (cond (nat_le m 24) 1 0))
+abbrev pub arity_of : ℕ → ℕ
+arity_of m = cond (m == 17) 2 (cond (nat_le 18 m && nat_le m 22) 0 (cond (nat_le m 24) 1 0))
 
 -- the opcodes above 24, and what each does
 abbrev pub table : List (ℕ × Operation)
@@ -55,7 +55,7 @@ operation_of op = cond (nat_le op 24) (Some Send) (found op table)
 
 -- how many working cells an instruction takes, which is the height that it needs, and how many it leaves in their place
 abbrev pub effect_of : Operation → Instruction → Effect
-effect_of Send i = record { takes = count_of i.opcode + 1; leaves = 1 }
+effect_of Send i = record { takes = arity_of i.opcode + 1; leaves = 1 }
 effect_of (SendSelector s) i = record { takes = i.argument % 256 + 1; leaves = 1 }
 effect_of (Push s) i = record { takes = 0; leaves = 1 }
 effect_of (Store t) i = record { takes = 1; leaves = 1 }

@@ -1,7 +1,7 @@
 // What an opcode asks: the one place that knows the opcodes by number, but for the extension pair, which the reader knows.
 ghost use Rattle.std.specs.Prelude.{◌≡◌};
 ghost use Rattle.std.specs.Option.{ok_or};
-ghost use Rattle.parcels.specs.Opcodes.{count_of, operation_of, effect_of, flow_of, landing_of, successors_of};
+ghost use Rattle.parcels.specs.Opcodes.{arity_of, operation_of, effect_of, flow_of, landing_of, successors_of};
 ghost use Rattle.parcels.specs.Reading.{starts_at};
 
 use crate::reading::Instruction;
@@ -81,7 +81,7 @@ const ARGUMENT_COUNTS: [u8; 25] = [
 
 // The argument count of a message that an opcode or the engine sends by its number; beyond the table, as for the message to what must be Boolean, it is 0.
 pub fn argument_count(message: u8) -> u8
-    ensures { result ≡ count_of message }
+    ensures { result ≡ arity_of message }
 {
     ARGUMENT_COUNTS.get(message as usize).copied().unwrap_or(0)
 }

@@ -8,7 +8,7 @@ use Rattle.values.specs.declared.kinds.Value.{Value}
 use Rattle.values.specs.declared.kinds.Value.TheVariants.{Nil, True, False, Integer}
 use Rattle.parcels.specs.Literals.{entry, literal}
 use Rattle.parcels.specs.Layouts.{limit_of}
-use Rattle.parcels.specs.Opcodes.{count_of, effect_of, after, flow_of, landing_of}
+use Rattle.parcels.specs.Opcodes.{arity_of, effect_of, after, flow_of, landing_of}
 use Rattle.parcels.specs.Parts.{Parts}
 use Rattle.parcels.specs.declared.literals.Literal.{Literal}
 use Rattle.parcels.specs.declared.literals.Literal.TheVariants.{Constant, Selector, Binding}
@@ -61,7 +61,7 @@ module _ (p : Parts) (i : Instruction) (next h vars bindings : ℕ) (long : leng
 
   pub stays_within : (o : Operation) → operand_wrong p vars i.argument o ≡ false → lands_wrong p.code next i.argument (flow_of o) ≡ false
       → (effect_of o i).takes ≤ h → after (effect_of o i) h ≤ limit_of p.layout → In (script_of (code_context_of p) i next h o)
-  stays_within Send e l n w = sends Send false i.opcode (count_of i.opcode) n
+  stays_within Send e l n w = sends Send false i.opcode (arity_of i.opcode) n
   stays_within (SendSelector s) e l n w = by (literal p.literals (i.argument / 256)) refl (not-false _ e)
     where
       by : (x : Option Literal) → literal p.literals (i.argument / 256) ≡ x → selects x (i.argument % 256) ≡ true

@@ -1,2 +1,2 @@
-pub mod Following
-pub mod Sparing
+pub mod Executing
+pub mod Operations

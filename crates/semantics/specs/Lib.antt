@@ -1,4 +1,4 @@
 pub mod Scripts
-pub mod RunView
+pub mod Execution
+pub mod Steps
 pub mod Laws
-pub mod Sparing
