@@ -36,6 +36,24 @@ InBounds n (read_row r i) = i < row_count n r
 InBounds n (write_row r i v) = i < row_count n r
 InBounds n _ = Unit {0}
 
+-- the working cells of a frame around one step: where they begin, how many are in use before it
+-- and after it, and how many of these it takes
+pub record Stack : Type 0 where
+  pub base : ℕ
+  pub before : ℕ
+  pub takes : ℕ
+  pub after : ℕ
+
+-- an access reads an argument, a local or a working cell that is in use; it writes an argument, a
+-- local, or a working cell that is in use before or after, and none below those that the step takes
+abbrev pub InUse : Stack → Access → Type 0
+InUse k (read_cell i) = i < k.base + k.before
+InUse k (read_cells i c) = i + c ≤ k.base + k.before
+InUse k (write_cell i v) =
+    (i < k.base)
+    ⊎ (k.base + (k.before - k.takes) ≤ i) × ((i < k.base + k.before) ⊎ (i < k.base + k.after))
+InUse k _ = Unit {0}
+
 -- a script comes to an outcome
 abbrev pub NotStuck : Leaf → Type 0
 NotStuck stuck = ⊥
