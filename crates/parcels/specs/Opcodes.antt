@@ -1,5 +1,5 @@
 -- What an opcode asks: what it does, what it takes and leaves, and where it goes on.
-use Rattle.std.specs.Prelude.{ℕ, ◌+◌, ◌-◌, ◌%◌, true, false, cond, ◌&&◌, List, [], ◌∷◌, Some, None, Option, ◌==◌, nat_le}
+use Rattle.std.specs.Prelude.{ℕ, ◌+◌, ◌-◌, ◌%◌, true, false, if◌then◌else◌, ◌&&◌, List, [], ◌∷◌, Some, None, Option, ◌==◌, nat_le}
 use Rattle.parcels.specs.Reading.{starts_at}
 use Rattle.parcels.specs.declared.reading.Instruction.{Instruction}
 use Rattle.parcels.specs.declared.opcodes.Source.TheVariants.{Cell, Binding, Variable, Integer, Special, Literal, Receiver}
@@ -13,13 +13,18 @@ use Rattle.parcels.specs.declared.opcodes.Effect.{Effect}
 use Rattle.parcels.specs.declared.opcodes.Flow.{Flow}
 use Rattle.parcels.specs.declared.opcodes.Flow.TheVariants.{Follows, Jumps, Branches, Ends}
 
--- the argument count of a message: 2 for message 17, 0 for 18 to 22, 1 for the others up to 24, and 0 beyond
+-- the argument count of a message: 2 for message 17, 0 for 18 to 22, 1 for the others up to 24, and
+-- 0 beyond
 abbrev pub arity_of : ℕ → ℕ
-arity_of m = cond (m == 17) 2 (cond (nat_le 18 m && nat_le m 22) 0 (cond (nat_le m 24) 1 0))
+arity_of m =
+    if m == 17 then 2
+    else if nat_le 18 m && nat_le m 22 then 0
+    else if nat_le m 24 then 1
+    else 0
 
 -- the opcodes above 24, and what each does
-abbrev pub table : List (ℕ × Operation)
-table =
+abbrev pub opcode_table : List (ℕ × Operation)
+opcode_table =
     (28, SendSelector false)
     ∷ (29, SendSelector true)
     ∷ (32, Push Cell)
@@ -45,27 +50,27 @@ table =
     ∷ []
 
 -- what the table has for an opcode
-abbrev pub found : ℕ → List (ℕ × Operation) → Option Operation
-found op [] = None
-found op (r ∷ rs) = cond (op == r.0) (Some r.1) (found op rs)
+abbrev pub lookup : ℕ → List (ℕ × Operation) → Option Operation
+lookup op [] = None
+lookup op (r ∷ rs) = if op == r.0 then Some r.1 else lookup op rs
 
 -- what an opcode does: 0 to 24 send that message
 abbrev pub operation_of : ℕ → Option Operation
-operation_of op = cond (nat_le op 24) (Some Send) (found op table)
+operation_of op = if nat_le op 24 then Some Send else lookup op opcode_table
 
--- how many working cells an instruction takes, which is the height that it needs, and how many it leaves in their place
+-- how many working cells an instruction takes, which is the height that it needs, and how many it
+-- leaves in their place
 abbrev pub effect_of : Operation → Instruction → Effect
 effect_of Send i = record { takes = arity_of i.opcode + 1; leaves = 1 }
 effect_of (SendSelector s) i = record { takes = i.argument % 256 + 1; leaves = 1 }
 effect_of (Push s) i = record { takes = 0; leaves = 1 }
 effect_of (Store t) i = record { takes = 1; leaves = 1 }
-effect_of (Jump d) i = record { takes = 0; leaves = 0 }
+effect_of Close i = record { takes = 1; leaves = 1 }
 effect_of (Branch b) i = record { takes = 1; leaves = 0 }
 effect_of Pop i = record { takes = 1; leaves = 0 }
 effect_of Duplicate i = record { takes = 1; leaves = 2 }
-effect_of Close i = record { takes = 1; leaves = 1 }
 effect_of (End e) i = record { takes = 1; leaves = 0 }
-effect_of Line i = record { takes = 0; leaves = 0 }
+effect_of _ i = record { takes = 0; leaves = 0 }
 
 -- the height after an instruction at height h
 abbrev pub after : Effect → ℕ → ℕ
@@ -73,25 +78,19 @@ after e h = h - e.takes + e.leaves
 
 -- where a path goes on
 abbrev pub flow_of : Operation → Flow
-flow_of Send = Follows
-flow_of (SendSelector s) = Follows
-flow_of (Push s) = Follows
-flow_of (Store t) = Follows
 flow_of (Jump d) = Jumps d
 flow_of (Branch b) = Branches
-flow_of Pop = Follows
-flow_of Duplicate = Follows
-flow_of Close = Follows
 flow_of (End e) = Ends
-flow_of Line = Follows
+flow_of _ = Follows
 
 -- a place, if an instruction starts there
 abbrev pub started : List ℕ → ℕ → Option ℕ
-started code p = cond (starts_at code p) (Some p) None
+started code p = if starts_at code p then Some p else None
 
--- the landing place of a jump, from the following place, if an instruction starts there; none lies before 0
+-- the landing place of a jump, from the following place, if an instruction starts there; none lies
+-- before 0
 abbrev pub landing_of : List ℕ → Direction → ℕ → ℕ → Option ℕ
-landing_of code Back next by = cond (nat_le by next) (started code (next - by)) None
+landing_of code Back next by = if nat_le by next then started code (next - by) else None
 landing_of code Forward next by = started code (next + by)
 
 -- the successors of an instruction, the landing place first and then the following place

@@ -1,8 +1,10 @@
--- The parts of a parcel: ten bytes, the literals, then the code.
+-- The parts of a parcel: its header, the literals, then the code.
 use Rattle.std.specs.Prelude.{ℕ, ◌+◌, ◌*◌, List, take, drop, Ok, Err, Result}
 use Rattle.values.specs.Order.{and_then}
 use Rattle.values.specs.declared.faults.Fault.{Fault}
 use Rattle.parcels.specs.declared.layout.Layout.{Layout}
+use Rattle.parcels.specs.declared.layout.TheConstants.{HEADER_BYTES}
+use Rattle.parcels.specs.declared.literals.TheConstants.{LITERAL_BYTES}
 use Rattle.parcels.specs.declared.parts.Parcel.{Parcel}
 use Rattle.parcels.specs.Layouts.{layout_of}
 
@@ -14,7 +16,11 @@ pub record Parts : Type 0 where
 
 -- the parts of bytes with a layout
 abbrev pub split : List ℕ → Layout → Parts
-split b l = record { layout = l; literals = take (6 * l.literal_count) (drop 10 b); code = drop (10 + 6 * l.literal_count) b }
+split b l = record {
+  layout = l;
+  literals = take (LITERAL_BYTES * l.literal_count) (drop HEADER_BYTES b);
+  code = drop (HEADER_BYTES + LITERAL_BYTES * l.literal_count) b;
+}
 
 -- the parts of a parcel, or the first header rule or flag rule that it breaks
 abbrev pub parts_of : List ℕ → Result Parts Fault
@@ -25,6 +31,6 @@ abbrev pub parts : Parcel → Parts
 parts p = record { layout = p.layout; literals = p.literals.now; code = p.code.now }
 
 -- a call's answer, with what the references in it point to
-abbrev pub seen : Result Parcel Fault → Result Parts Fault
-seen (Ok p) = Ok (parts p)
-seen (Err f) = Err f
+abbrev pub as_parts : Result Parcel Fault → Result Parts Fault
+as_parts (Ok p) = Ok (parts p)
+as_parts (Err f) = Err f

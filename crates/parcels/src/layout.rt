@@ -1,19 +1,34 @@
 // The header and the flags of a parcel.
 ghost use Rattle.std.specs.Prelude.{◌≡◌, ◌+◌, ◌*◌, ◌<◌, ◌≤◌, ◌^◌, length, IfOk};
 ghost use Rattle.std.specs.Option.{ok_or};
-ghost use Rattle.parcels.specs.Layouts.{header_of, bits, kind_named, laid_out, reserved_set, flagged, layout_of, limit_of, FitsIn};
+ghost use Rattle.parcels.specs.Layouts.{parcel_header, bits, kind_named, laid_out, reserved_set, flagged, layout_of, limit_of, HeaderFitsIn, FitsIn};
+ghost use Rattle.parcels.specs.declared.layout.TheConstants.{MAX_SLOTS};
 
+use crate::literals::LITERAL_BYTES;
 use values::{Fault, Rule, Unknown};
 
-// What the code is. A method has no chain use; an Option of the chain use would not say which of the two it is.
+/// How many bytes stand before the literals: the kind, the number of literals, the flags and the
+/// length of the code.
+pub const HEADER_BYTES: usize = 10;
+
+/// The most literals that a parcel has.
+pub const MAX_LITERALS: u16 = 1024;
+
+/// The most bytes that a code has.
+pub const MAX_CODE: u16 = 4096;
+
+/// The most slots that flags can ask for.
+pub const MAX_SLOTS: u8 = 252;
+
+/// What the code is: a method, or a block with its chain use.
 #[derive(Clone, Copy, PartialEq, Eq, Debug)]
 pub enum CodeKind {
     Method,
     Block { chain: u8 },
 }
 
-// What the header and the flags say. Its fields are public, and any numbers may stand in them: a ghost field for the limits that the rules set
-// would ask more of whoever fills them.
+/// What the header and the flags say: what the code is, the number of literals, the bytes of the
+/// code, and the cells that it asks for. The locals are the first of the slots.
 #[derive(Clone, Copy, PartialEq, Eq, Debug)]
 pub struct Layout {
     pub kind: CodeKind,
@@ -46,9 +61,9 @@ impl TryFrom<u16> for Kind {
     }
 }
 
-// The ten bytes before the literals, with their numbers read.
+// The bytes before the literals, with their numbers read.
 #[derive(Clone, Copy)]
-pub struct Header {
+pub struct ParcelHeader {
     pub kind: Kind,
     pub literal_count: u16,
     pub flags: u32,
@@ -56,9 +71,9 @@ pub struct Header {
 }
 
 // The header of a parcel, or the first header rule that it breaks.
-fn read_header(bytes: &[u8]) -> Result<Header, Fault>
-    ensures answer { result ≡ header_of bytes.now }
-    ensures fits { IfOk result (λ h. (10 + 6 * h.literal_count + h.code_length ≡ length bytes.now) × (h.literal_count ≤ 1024) × (h.code_length ≤ 4096)) }
+fn read_header(bytes: &[u8]) -> Result<ParcelHeader, Fault>
+    ensures answer { result ≡ parcel_header bytes.now }
+    ensures fits { IfOk result (λ h. HeaderFitsIn h (length bytes.now)) }
 {
     let [k1, k0, n1, n0, f3, f2, f1, f0, l1, l0, ..] = bytes else {
         return Err(Rule::HeaderShort.at(0));
@@ -67,18 +82,18 @@ fn read_header(bytes: &[u8]) -> Result<Header, Fault>
         return Err(Rule::KindUnknown.at(0));
     };
     let literal_count = u16::from_be_bytes([*n1, *n0]);
-    if literal_count > 1024 {
+    if literal_count > MAX_LITERALS {
         return Err(Rule::LiteralsTooMany.at(2));
     }
     let code_length = u16::from_be_bytes([*l1, *l0]);
-    if code_length > 4096 {
+    if code_length > MAX_CODE {
         return Err(Rule::CodeTooLong.at(8));
     }
-    if bytes.len() != 10 + 6 * literal_count as usize + code_length as usize {
+    if bytes.len() != HEADER_BYTES + LITERAL_BYTES * literal_count as usize + code_length as usize {
         return Err(Rule::LengthWrong.at(8));
     }
     let flags = u32::from_be_bytes([*f3, *f2, *f1, *f0]);
-    Ok(Header {
+    Ok(ParcelHeader {
         kind,
         literal_count,
         flags,
@@ -96,7 +111,7 @@ fn bits(flags: u32, low: u32, width: u32) -> u8
 }
 
 // What the flags of a method or a block say; the rules on them come after.
-fn lay_out(header: Header) -> Layout
+fn layout_by_flags(header: ParcelHeader) -> Layout
     ensures { result ≡ laid_out header }
 {
     let flags = header.flags;
@@ -123,7 +138,7 @@ fn lay_out(header: Header) -> Layout
 }
 
 // Whether a bit of the flags is set that has to be 0.
-fn reserved(header: Header) -> bool
+fn reserved(header: ParcelHeader) -> bool
     ensures { result ≡ reserved_set header }
 {
     let flags = header.flags;
@@ -134,14 +149,16 @@ fn reserved(header: Header) -> bool
 }
 
 // The layout that a header gives, or the first flag rule that it breaks.
-fn read_flags(header: Header) -> Result<Layout, Fault>
+fn read_flags(header: ParcelHeader) -> Result<Layout, Fault>
     ensures answer { result ≡ flagged header }
-    ensures fits { IfOk result (λ l. (l.literal_count ≡ header.literal_count) × (l.code_length ≡ header.code_length) × (l.slot_count ≤ 252)) }
+    ensures literals { IfOk result (λ l. l.literal_count ≡ header.literal_count) }
+    ensures code { IfOk result (λ l. l.code_length ≡ header.code_length) }
+    ensures slots { IfOk result (λ l. l.slot_count ≤ MAX_SLOTS) }
 {
     if reserved(header) {
         return Err(Rule::FlagsReserved.at(4));
     }
-    let layout = lay_out(header);
+    let layout = layout_by_flags(header);
     if layout.local_count > layout.slot_count {
         return Err(Rule::LocalsOverSlots.at(4));
     }
@@ -149,7 +166,7 @@ fn read_flags(header: Header) -> Result<Layout, Fault>
 }
 
 impl Layout {
-    // The layout of a parcel, or the first header rule or flag rule that it breaks.
+    /// The layout of a parcel, or the first rule of its header or its flags that it breaks.
     pub fn read(bytes: &[u8]) -> Result<Layout, Fault>
         ensures answer { result ≡ layout_of bytes.now }
         ensures fits { IfOk result (λ l. FitsIn l (length bytes.now)) }
@@ -158,21 +175,22 @@ impl Layout {
         read_flags(header)
     }
 
-    // How many cells a frame has to have: those of the arguments and the slots.
+    /// How many cells a frame has to have: those of the arguments and the slots.
     pub fn cells(self) -> usize
         ensures { result ≡ self.argument_count + self.slot_count }
     {
         usize::from(self.argument_count) + usize::from(self.slot_count)
     }
 
-    // Where the working cells begin: behind the arguments and the locals.
+    /// The cell of a frame at which the working cells begin, behind the arguments and the locals.
     pub fn base(self) -> usize
         ensures { result ≡ self.argument_count + self.local_count }
     {
         usize::from(self.argument_count) + usize::from(self.local_count)
     }
 
-    // The greatest height: what the slots leave beside the locals.
+    /// The greatest height that a stack of working cells may have: what the slots leave beside the
+    /// locals.
     pub fn limit(self) -> u8
         ensures { result ≡ limit_of self }
     {

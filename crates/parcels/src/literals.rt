@@ -1,11 +1,12 @@
 // The literals of a parcel.
 ghost use Rattle.std.specs.Prelude.{◌≡◌, ◌*◌, ◌/◌, length};
-ghost use Rattle.parcels.specs.Literals.{literal_of, entry, literal, wrong, first_wrong};
+ghost use Rattle.parcels.specs.Literals.{literal_of, entry, literal, literal_fault, literals_fault};
 ghost use Rattle.values.specs.Order.{unless};
 
 use values::{Fault, Rule, Value};
 
-// What a literal stands for.
+/// What a literal stands for: a value, a selector by its number with its argument count, or a
+/// binding by its number.
 #[derive(Clone, Copy, PartialEq, Eq, Debug)]
 pub enum Literal {
     Constant(Value),
@@ -13,10 +14,11 @@ pub enum Literal {
     Binding(u32),
 }
 
-// How many bytes a literal takes.
-const ENTRY: usize = 6;
+/// How many bytes a literal takes.
+pub const LITERAL_BYTES: usize = 6;
 
-// The kind byte of a selector. Below it stand those of values: the bytes of the format meet their cases here alone.
+// The kind byte of a selector. Below it stand those of values: the bytes of the format meet their
+// cases here alone.
 const SELECTOR: u8 = 7;
 
 // The kind byte of a binding.
@@ -37,12 +39,12 @@ fn of_parts(detail: u8, kind: u8, number: u32) -> Option<Literal>
     }
 }
 
-// Literal k of a parcel's literals, if there is one and it keeps the rules. The literals are bytes as they lie in the parcel, since a slice of entries
-// would ask of every caller that their bytes are a multiple of six. An operand may name any number.
+/// Literal k of a parcel's literals, which are the bytes as they lie in the parcel. None says that
+/// there is no literal k, or that it breaks a rule.
 pub fn literal_at(literals: &[u8], k: u32) -> Option<Literal>
     ensures { result ≡ literal literals.now k }
 {
-    let [detail, kind, a, b, c, d, ..] = literals.get(ENTRY * k as usize..)? else {
+    let [detail, kind, a, b, c, d, ..] = literals.get(LITERAL_BYTES * k as usize..)? else {
         return None;
     };
     of_parts(*detail, *kind, u32::from_be_bytes([*a, *b, *c, *d]))
@@ -50,7 +52,7 @@ pub fn literal_at(literals: &[u8], k: u32) -> Option<Literal>
 
 // Checks literal k, over a host with so many bindings.
 fn check_literal(literals: &[u8], k: u32, bindings: usize) -> Result<(), Fault>
-    ensures { result ≡ unless (wrong literals.now bindings k) tt }
+    ensures { result ≡ unless (literal_fault literals.now bindings k) tt }
 {
     match literal_at(literals, k) {
         None => Err(Rule::LiteralWrong.at(k as usize)),
@@ -61,9 +63,10 @@ fn check_literal(literals: &[u8], k: u32, bindings: usize) -> Result<(), Fault>
     }
 }
 
-// Checks so many literals in order from number 0: the first that breaks a rule ends it. The loop goes by number, since that is the place of a fault.
+/// Checks so many literals in order from number 0, over a host with so many bindings. A refusal is
+/// the fault of the first literal that breaks a rule, at its number.
 pub fn check_literals(literals: &[u8], count: u16, bindings: usize) -> Result<(), Fault>
-    ensures { result ≡ unless (first_wrong literals.now count bindings) tt }
+    ensures { result ≡ unless (literals_fault literals.now count bindings) tt }
 {
     for k in 0..count {
         check_literal(literals, k as u32, bindings)?;

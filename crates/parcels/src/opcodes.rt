@@ -1,13 +1,20 @@
-// What an opcode asks: the one place that knows the opcodes by number, but for the extension pair, which the reader knows.
+// What an opcode asks: the one place that knows the opcodes by number, but for the extension pair,
+// which the reader knows.
 ghost use Rattle.std.specs.Prelude.{◌≡◌};
 ghost use Rattle.std.specs.Option.{ok_or};
 ghost use Rattle.parcels.specs.Opcodes.{arity_of, operation_of, effect_of, flow_of, landing_of, successors_of};
 ghost use Rattle.parcels.specs.Reading.{starts_at};
 
-use crate::reading::Instruction;
+use crate::reading::{EXTENSION, Instruction, PAIR_BYTES};
 use values::Unknown;
 
-// Where a pushed value comes from.
+/// A pushed integer is below this.
+pub const INTEGER_LIMIT: u32 = 536_870_912;
+
+/// How many special values there are: nil, true and false, by numbers from 0 on.
+pub const SPECIAL_COUNT: u32 = 3;
+
+/// Where a pushed value comes from.
 #[derive(Clone, Copy, PartialEq, Eq, Debug)]
 pub enum Source {
     Cell,
@@ -19,7 +26,7 @@ pub enum Source {
     Receiver,
 }
 
-// Where a stored value goes.
+/// Where a stored value goes.
 #[derive(Clone, Copy, PartialEq, Eq, Debug)]
 pub enum Target {
     Cell,
@@ -27,21 +34,21 @@ pub enum Target {
     Variable,
 }
 
-// Which way a jump goes.
+/// Which way a jump goes.
 #[derive(Clone, Copy, PartialEq, Eq, Debug)]
 pub enum Direction {
     Back,
     Forward,
 }
 
-// How a run ends.
+/// How a run ends.
 #[derive(Clone, Copy, PartialEq, Eq, Debug)]
 pub enum Ending {
     MethodReturn,
     Return,
 }
 
-// What an instruction does.
+/// What an instruction does.
 #[derive(Clone, Copy, PartialEq, Eq, Debug)]
 pub enum Operation {
     Send,
@@ -57,15 +64,16 @@ pub enum Operation {
     Line,
 }
 
-// How many working cells an instruction takes, and how many it leaves in their place. A selector has up to 255 arguments as an operand states them, so
-// that up to 256 cells are taken.
+/// How many working cells an instruction takes, and how many it leaves in their place. An operand
+/// states up to 255 arguments of a selector, so that up to 256 cells are taken.
 #[derive(Clone, Copy, PartialEq, Eq, Debug)]
 pub struct Effect {
     pub takes: u16,
     pub leaves: u8,
 }
 
-// Where a path goes on from an instruction.
+/// Where a path goes on from an instruction: to the following place, to a landing place, to either,
+/// or nowhere.
 #[derive(Clone, Copy, PartialEq, Eq, Debug)]
 pub enum Flow {
     Follows,
@@ -79,7 +87,8 @@ const ARGUMENT_COUNTS: [u8; 25] = [
     1, 1, 1, 1, 1, 1, 1, 1, 1, 1, 1, 1, 1, 1, 1, 1, 1, 2, 0, 0, 0, 0, 0, 1, 1,
 ];
 
-// The argument count of a message that an opcode or the engine sends by its number; beyond the table, as for the message to what must be Boolean, it is 0.
+/// The argument count of a message that an opcode or a run sends by its number; beyond the table,
+/// as for the message to what must be Boolean, it is 0.
 pub fn argument_count(message: u8) -> u8
     ensures { result ≡ arity_of message }
 {
@@ -124,7 +133,7 @@ impl TryFrom<u8> for Operation {
 }
 
 impl Operation {
-    // What an instruction takes and leaves: it needs the height that it takes.
+    /// What an instruction takes and leaves: it needs the height that it takes.
     pub fn effect(self, instruction: Instruction) -> Effect
         ensures { result ≡ effect_of self instruction }
     {
@@ -160,7 +169,7 @@ impl Operation {
         }
     }
 
-    // Where a path goes on after an operation.
+    /// Where a path goes on after an operation.
     pub fn flow(self) -> Flow
         ensures { result ≡ flow_of self }
     {
@@ -173,14 +182,17 @@ impl Operation {
     }
 }
 
-// Whether an instruction starts at a place: it is even, below the end, and not directly after an extension pair.
+/// Whether an instruction starts at a place: it is even, below the end, and not directly after an
+/// extension pair.
 pub fn starts(code: &[u8], place: usize) -> bool
     ensures { result ≡ starts_at code.now place }
 {
-    place % 2 == 0 && place < code.len() && !(place >= 2 && code[place - 2] == 55)
+    place % PAIR_BYTES == 0
+        && place < code.len()
+        && !(place >= PAIR_BYTES && code[place - PAIR_BYTES] == EXTENSION)
 }
 
-// The landing place of a jump by so much from the following place, if an instruction starts there.
+/// The landing place of a jump by so much from the following place, if an instruction starts there.
 pub fn landing(code: &[u8], direction: Direction, next: usize, by: u32) -> Option<usize>
     ensures { result ≡ landing_of code.now direction next by }
 {
@@ -192,7 +204,8 @@ pub fn landing(code: &[u8], direction: Direction, next: usize, by: u32) -> Optio
 }
 
 impl Flow {
-    // The successors of an instruction, the landing place first and then the following place: no instruction has more than two.
+    /// The successors of an instruction, the landing place first and then the following place: no
+    /// instruction has more than two.
     pub fn successors(self, code: &[u8], next: usize, by: u32) -> [Option<usize>; 2]
         ensures { result ≡ successors_of code.now self next by }
     {

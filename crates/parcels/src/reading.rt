@@ -1,11 +1,21 @@
 // Instructions, read off the front of a code.
-ghost use Rattle.std.specs.Prelude.{◌≡◌, ◌+◌, ◌*◌, ◌<◌, ◌≤◌, length, drop, Ok, Err};
-ghost use Rattle.parcels.specs.Reading.{unreadable_rule, reading, read_at, seen};
+ghost use Rattle.std.specs.Prelude.{◌≡◌, ◌+◌, ◌*◌, ◌<◌, ◌≤◌, length, drop, IfOk};
+ghost use Rattle.parcels.specs.Reading.{unreadable_rule, reading, read_at, place_after, as_reading};
+ghost use Rattle.parcels.specs.declared.reading.TheConstants.{PAIR_BYTES, MAX_EXTENSIONS};
 
 use values::Rule;
 
-// A final pair with its extension pairs: the argument is their second bytes joined. The opcode is the byte that was read, since an instruction is read
-// before its opcode is looked up.
+/// How many bytes a pair has: an opcode and an argument byte.
+pub const PAIR_BYTES: usize = 2;
+
+/// The opcode of an extension pair.
+pub const EXTENSION: u8 = 55;
+
+/// How many extension pairs may stand before a final pair.
+pub const MAX_EXTENSIONS: u8 = 3;
+
+/// A final pair with its extension pairs: the byte that stands as its opcode, known or not, the
+/// argument, which is their second bytes joined, and how many pairs they are.
 #[derive(Clone, Copy, PartialEq, Eq, Debug)]
 pub struct Instruction {
     pub opcode: u8,
@@ -13,7 +23,7 @@ pub struct Instruction {
     pub pairs: u8,
 }
 
-// Why there is no instruction.
+/// Why there is no instruction: a fourth extension pair, or the end of the code.
 #[derive(Clone, Copy, PartialEq, Eq, Debug)]
 pub enum Unreadable {
     FourthExtension,
@@ -34,19 +44,20 @@ impl From<Unreadable> for Rule {
 
 // The first instruction of a code, and the code that follows it.
 fn take_instruction(code: &[u8]) -> Result<(Instruction, &[u8]), Unreadable>
-    ensures reads { seen result ≡ reading code.now }
-    ensures place { elim result [ Ok p ↦ p.1.now ≡ drop (2 * p.0.pairs) code.now | Err e ↦ Unit {0} ] }
-    ensures within { elim result [ Ok p ↦ (2 * p.0.pairs ≤ length code.now) × (1 ≤ p.0.pairs) × (p.0.pairs ≤ 4) | Err e ↦ Unit {0} ] }
+    ensures reads { as_reading result ≡ reading code.now }
+    ensures place { IfOk result (λ p. p.1.now ≡ drop (PAIR_BYTES * p.0.pairs) code.now) }
+    ensures within { IfOk result (λ p. PAIR_BYTES * p.0.pairs ≤ length code.now) }
+    ensures some { IfOk result (λ p. 1 ≤ p.0.pairs) }
+    ensures few { IfOk result (λ p. p.0.pairs ≤ MAX_EXTENSIONS + 1) }
 {
     let mut rest = code;
     let mut argument = 0u32;
     let mut pairs = 0u8;
-    while let [55, b, after @ ..] = rest {
-        if pairs == 3 {
+    while let [EXTENSION, b, after @ ..] = rest {
+        if pairs == MAX_EXTENSIONS {
             return Err(Unreadable::FourthExtension);
         }
         argument = argument * 256 + *b as u32;
-        // The number of pairs is a part of the answer.
         pairs += 1;
         rest = after;
     }
@@ -63,7 +74,7 @@ fn take_instruction(code: &[u8]) -> Result<(Instruction, &[u8]), Unreadable>
     }
 }
 
-// A place in a borrowed code.
+/// A place in a borrowed code, in bytes.
 #[derive(Clone, Copy)]
 pub struct Reader<'a> {
     pub code: &'a [u8],
@@ -71,7 +82,7 @@ pub struct Reader<'a> {
 }
 
 impl<'a> Reader<'a> {
-    // A reader at a place of a code.
+    /// A reader at a place of a code.
     pub fn at(code: &'a [u8], place: usize) -> Reader<'a>
         ensures code { result.code.now ≡ code.now }
         ensures place { result.place ≡ place }
@@ -79,17 +90,21 @@ impl<'a> Reader<'a> {
         Reader { code, place }
     }
 
-    // The instruction at the place, with the code that follows it; the place is then the following one. A refusal leaves the place.
+    /// The instruction at the place, with the code that follows it; the place is then the following
+    /// one. A refusal leaves the place.
     pub fn advance(&mut self) -> Result<(Instruction, &'a [u8]), Unreadable>
         ensures code { self.new.code.now ≡ self.old.code.now }
-        ensures reads { seen result ≡ read_at self.old.code.now self.old.place }
-        ensures place { self.new.place ≡ elim result [ Ok p ↦ self.old.place + 2 * p.0.pairs | Err e ↦ self.old.place ] }
-        ensures follows { elim result [ Ok p ↦ p.1.now ≡ drop self.new.place self.old.code.now | Err e ↦ Unit {0} ] }
-        ensures within { elim result [ Ok p ↦ (self.old.place < self.new.place) × (self.new.place ≤ length self.old.code.now) × (p.0.pairs ≤ 4) | Err e ↦ Unit {0} ] }
+        ensures reads { as_reading result ≡ read_at self.old.code.now self.old.place }
+        ensures place { self.new.place ≡ place_after self.old.place (as_reading result) }
+        ensures follows { IfOk result (λ p. p.1.now ≡ drop self.new.place self.old.code.now) }
+        ensures within { IfOk result (λ p.
+            (self.old.place < self.new.place)
+            × (self.new.place ≤ length self.old.code.now)
+            × (p.0.pairs ≤ MAX_EXTENSIONS + 1)) }
     {
         let code = self.code.get(self.place..).ok_or(Unreadable::Cut)?;
         let (instruction, rest) = take_instruction(code)?;
-        self.place += 2 * instruction.pairs as usize;
+        self.place += PAIR_BYTES * instruction.pairs as usize;
         Ok((instruction, rest))
     }
 }

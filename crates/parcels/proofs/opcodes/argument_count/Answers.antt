@@ -5,4 +5,7 @@ use Rattle.parcels.proofs.opcodes.argument_count.Goals as goal
 
 pub returns : goal.returns
 returns c =
-    c.unwrap_or.ensures ∙ ap (λ o. unwrap_or o 0) c.copied.ensures ∙ looked_up _ c.get.result c.args.message c.get.ensures.lookup.0 c.get.ensures.lookup.1 refl
+    let found = c.get.ensures.lookup in
+    c.unwrap_or.ensures
+    ∙ ap (λ o. unwrap_or o 0) c.copied.ensures
+    ∙ looked_up _ c.get.result c.args.message found.0 found.1 refl
