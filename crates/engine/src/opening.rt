@@ -5,12 +5,12 @@ ghost use Rattle.hosts.specs.Meaning.{marks_of};
 ghost use Rattle.parcels.specs.Parts.{parts};
 ghost use Rattle.stages.specs.Check.{checked};
 ghost use Rattle.soundness.specs.Verdicts.{parcel};
-ghost use Rattle.semantics.specs.RunView.{value_in};
+ghost use Rattle.semantics.specs.Steps.{value_in};
 ghost use Rattle.safety.specs.Opening.{open_tests, opened, begun, laid, empty};
 ghost use Rattle.safety.specs.Histories.{ExtendsHistory};
 ghost use Rattle.safety.specs.Ready.{Ready};
 ghost use Rattle.safety.specs.Tried.{WorkedRuns};
-ghost use Rattle.engine.specs.Turns.{if_ok};
+ghost use Rattle.engine.specs.Decoding.{if_ok};
 ghost use Rattle.engine.specs.View.{view};
 
 use crate::frames::lay_out;
@@ -22,7 +22,7 @@ use semantics::State;
 use values::{Fault, Rule, Value};
 
 impl<'a> Run<'a> {
-    // A run that is ended by return with nil, at place 0.
+    /// A run that is ended by return with nil, at place 0.
     pub fn empty() -> Run<'a>
         ensures run { view result ≡ empty }
         ensures tried { WorkedRuns }
@@ -41,8 +41,8 @@ impl<'a> Run<'a> {
                 literals: &[],
                 code: &[],
             },
-            variables: 0,
-            bindings: 0,
+            variable_count: 0,
+            binding_count: 0,
             state: State::Ended {
                 how: Ending::Return,
                 value: Value::Nil,
@@ -52,12 +52,12 @@ impl<'a> Run<'a> {
         }
     }
 
-    // Uses the run up, and answers its state and its value, nil unless it ended. The host that it was on is asked nothing: every history of that host
-    // goes on without the run.
+    /// Uses the run up, and answers its state and its value, nil unless it ended. The host that it
+    /// was on is asked nothing: every history of that host goes on without the run.
     pub fn collect<H: Host>(self, host: &H) -> (State, Value)
         ensures state { result.0 ≡ (view self.entry).state }
         ensures value { result.1 ≡ value_in (view self.entry).state }
-        ensures on { ExtendsHistory H.means H.may host.now (view self.entry) host.now None }
+        ensures extends { ExtendsHistory H.means H.may host.now (view self.entry) host.now None }
     {
         match self.state {
             State::Ended { value, .. } => (self.state, value),
@@ -86,12 +86,10 @@ impl<'a> Run<'a> {
             return Err(Rule::FrameShort.at(0));
         }
         lay_out(frame, arguments, layout.local_count as usize);
-        let variables = host.count(Row::Variables);
-        let bindings = host.count(Row::Bindings);
         *self = Run {
             parcel,
-            variables,
-            bindings,
+            variable_count: host.count(Row::Variables),
+            binding_count: host.count(Row::Bindings),
             state: State::Live,
             place: 0,
             height: 0,
@@ -99,8 +97,11 @@ impl<'a> Run<'a> {
         Ok(())
     }
 
-    // Opens a parcel on a host: checks it, and begins a run of it with the arguments in the first frame cells and nil in the locals. A refusal
-    // leaves the run and the frame; the two lists are as the check leaves them. The answer is the greatest height.
+    /// Opens a parcel on a host: checks it, and begins a run of it with the arguments in the first
+    /// frame cells and nil in the locals, in the place of whatever run this was. The answer is the
+    /// greatest height. A fault of the check is passed on whole; after it, 25 at 0: the argument
+    /// count is not the parcel's, and 26 at 0: the frame has fewer than arguments + slots cells. A
+    /// refusal leaves the run and the frame; the two lists are as the check leaves them.
     pub fn open<H: Host>(
         &mut self,
         host: &H,
@@ -116,7 +117,7 @@ impl<'a> Run<'a> {
         ensures frame { frame.new ≡ (opened (H.means host.now) trusted bytes.now arguments.now frame.old heights.old waiting.old (view self.old)).frame }
         ensures heights { heights.new ≡ (checked (marks_of (H.means host.now)) trusted bytes.now heights.old waiting.old).heights }
         ensures waiting { waiting.new ≡ (checked (marks_of (H.means host.now)) trusted bytes.now heights.old waiting.old).waiting }
-        ensures on { ExtendsHistory H.means H.may host.now (view self.old) host.now (Some (view self.new)) }
+        ensures extends { ExtendsHistory H.means H.may host.now (view self.old) host.now (Some (view self.new)) }
     {
         let top = check(host, bytes, trusted, heights, waiting)?;
         let Ok(parcel) = Parcel::read(bytes) else {

@@ -1,46 +1,46 @@
 // What each class of instructions does, access by access.
 ghost use Rattle.std.specs.Prelude.{◌≡◌, ◌+◌, ◌-◌, ◌<◌, ◌≤◌, ◌/◌, ◌%◌, true, length, is_some, Some, slice_index_or, slice_set};
 ghost use Rattle.values.specs.declared.kinds.Value.TheVariants.{Nil};
-ghost use Rattle.parcels.specs.Parts.{parts};
-ghost use Rattle.semantics.specs.RunView.{code_context_of, base_of};
-ghost use Rattle.parcels.specs.Literals.{literal};
-ghost use Rattle.stages.specs.Operands.{selects, binds, constant};
-ghost use Rattle.semantics.specs.Scripts.{Runs, sending, selector_of, binding_of, constant_of};
-ghost use Rattle.parcels.specs.declared.opcodes.Operation.TheVariants.{Send, SendSelector, Push, Store, Branch};
+ghost use Rattle.parcels.specs.Layouts.{limit_of};
+ghost use Rattle.parcels.specs.Literals.{literal, selector_of, binding_of, constant_of};
 ghost use Rattle.parcels.specs.Opcodes.{landing_of};
-ghost use Rattle.engine.specs.declared.turns.Went.TheVariants.{On};
-ghost use Rattle.engine.specs.Turns.{outcome_of, top_of, Turned, pushed_value, Long};
+ghost use Rattle.parcels.specs.Parts.{parts};
+ghost use Rattle.parcels.specs.declared.opcodes.Operation.TheVariants.{Send, SendSelector, Push, Store, Branch};
+ghost use Rattle.stages.specs.Operands.{is_selector, is_binding, is_constant};
+ghost use Rattle.semantics.specs.Scripts.{sending};
+ghost use Rattle.semantics.specs.Execution.{Exec};
+ghost use Rattle.semantics.specs.Steps.{code_context_of, working_base};
+ghost use Rattle.engine.specs.declared.decoded.StepResult.TheVariants.{Continued};
+ghost use Rattle.engine.specs.Decoding.{outcome_of, top_cell, Performed, source_value, Long};
 
-use crate::frames::push_value;
-use crate::turns::{Turn, Went};
+use crate::decoded::{Decoded, StepResult};
+use crate::frames::{pop_value, push_value};
 use hosts::{Host, Message, Row};
 use parcels::{Direction, Literal, Source, Target, argument_count, landing, literal_at};
 use semantics::Stop;
 use values::Value;
 
-// The message to what ought to be true or false. Any number is a message, so that the ones with a meaning are constants and no enum.
+/// The selector number of mustBeBoolean.
 const MUST_BE_BOOLEAN: u32 = 25;
 
 // The values that are pushed by number.
 const SPECIAL: [Value; 3] = [Value::Nil, Value::True, Value::False];
 
-// The frame comes beside the turn, with `long` in each contract: a struct of the two is not covered by the borrow checker where a method hands it
-// on by value, and behind a `&mut` each method would have to promise that it keeps the frame, which is no plainer.
-impl Turn<'_> {
+impl Decoded<'_> {
     // Where the working cells begin.
     fn base(&self) -> usize
-        ensures { result ≡ base_of (parts self.now.parcel) }
+        ensures { result ≡ working_base (parts self.now.parcel) }
     {
         self.parcel.layout.base()
     }
 
-    // On to the following place.
-    pub(crate) fn on(&self) -> Went
-        ensures { result ≡ On self.now.next self.now.after }
+    // On to the following place, at a height.
+    pub(crate) fn follow(&self, height: usize) -> StepResult
+        ensures { result ≡ Continued self.now.next height }
     {
-        Went::On {
+        StepResult::Continued {
             place: self.next,
-            height: self.after,
+            height,
         }
     }
 
@@ -48,32 +48,43 @@ impl Turn<'_> {
     pub(crate) fn top(&self, frame: &[Value]) -> Value
         requires some { 1 ≤ self.now.height }
         requires long { Long (parts self.now.parcel) (length frame.now) }
-        ensures { result ≡ slice_index_or frame.now (top_of self.now) Nil }
+        ensures { result ≡ slice_index_or frame.now (top_cell self.now) Nil }
     {
         frame[self.base() + (self.height - 1)]
+    }
+
+    // The top, taken off.
+    pub(crate) fn pop(&self, frame: &mut [Value]) -> Value
+        requires some { 1 ≤ self.now.height }
+        requires long { Long (parts self.now.parcel) (length frame.old) }
+        ensures value { result ≡ slice_index_or frame.old (top_cell self.now) Nil }
+        ensures frame { frame.new ≡ frame.old }
+    {
+        pop_value(frame, self.base(), self.height)
     }
 
     // Puts a value in the place of the top.
     pub(crate) fn set_top(&self, v: Value, frame: &mut [Value])
         requires some { 1 ≤ self.now.height }
         requires long { Long (parts self.now.parcel) (length frame.old) }
-        ensures { frame.new ≡ slice_set frame.old (top_of self.now) v }
+        ensures { frame.new ≡ slice_set frame.old (top_cell self.now) v }
     {
         push_value(frame, self.base(), self.height - 1, v);
     }
 
     // A value on top, and on.
-    pub(crate) fn push(&self, v: Value, frame: &mut [Value]) -> Went
-        requires room { self.now.height + 1 ≤ self.now.after }
+    pub(crate) fn push(&self, v: Value, frame: &mut [Value]) -> StepResult
+        requires room { self.now.height + 1 ≤ limit_of self.now.parcel.layout }
         requires long { Long (parts self.now.parcel) (length frame.old) }
-        ensures went { result ≡ On self.now.next self.now.after }
-        ensures frame { frame.new ≡ slice_set frame.old (base_of (parts self.now.parcel) + self.now.height) v }
+        ensures result { result ≡ Continued self.now.next (self.now.height + 1) }
+        ensures frame { frame.new ≡ slice_set frame.old (working_base (parts self.now.parcel) + self.now.height) v }
     {
         push_value(frame, self.base(), self.height, v);
-        self.on()
+        self.follow(self.height + 1)
     }
 
-    // Sends a message with `count` arguments from the top and the receiver below them; the answer replaces the receiver.
+    // Sends a message with `count` arguments from the top and the receiver below them; the answer
+    // takes the receiver's place.
     fn send<H: Host>(
         &self,
         is_super: bool,
@@ -81,10 +92,10 @@ impl Turn<'_> {
         count: usize,
         host: &mut H,
         frame: &mut [Value],
-    ) -> Went
+    ) -> StepResult
         requires need { count + 1 ≤ self.now.height }
         requires long { Long (parts self.now.parcel) (length frame.old) }
-        ensures { Runs H.means H.may (parts self.now.parcel).literals (sending (code_context_of (parts self.now.parcel)) self.now.instruction self.now.next self.now.height self.now.operation is_super selector count) frame.old host.old (outcome_of result) frame.new host.new }
+        ensures { Exec (parts self.now.parcel).literals H.means H.may (sending (code_context_of (parts self.now.parcel)) self.now.instruction self.now.next self.now.height is_super selector count) frame.old host.old (outcome_of result) frame.new host.new }
     {
         let base = self.base();
         let first = base + (self.height - count);
@@ -98,26 +109,26 @@ impl Turn<'_> {
         match host.send(&message) {
             Some(answer) => {
                 push_value(frame, base, self.height - count - 1, answer);
-                self.on()
+                self.follow(self.height - count)
             }
-            None => Went::Stopped(Stop::NotUnderstood { selector }),
+            None => StepResult::Stopped(Stop::NotUnderstood { selector }),
         }
     }
 
     // Sends the message of a short opcode.
-    pub(crate) fn send_special<H: Host>(&self, host: &mut H, frame: &mut [Value]) -> Went
+    pub(crate) fn send_special<H: Host>(&self, host: &mut H, frame: &mut [Value]) -> StepResult
         requires is { self.now.operation ≡ Send }
         requires long { Long (parts self.now.parcel) (length frame.old) }
-        ensures { Turned H.means H.may self.now frame.old host.old result frame.new host.new }
+        ensures { Performed H.means H.may self.now frame.old host.old result frame.new host.new }
     {
         let opcode = self.instruction.opcode;
         let count = argument_count(opcode) as usize;
         self.send(false, opcode as u32, count, host, frame)
     }
 
-    // The selector number of the literal that the instruction names. There is one such function for each case of a literal, as each holds something else.
+    // The selector number of the literal that the instruction names.
     fn selector(&self) -> u32
-        requires { selects (literal self.now.parcel.literals.now (self.now.instruction.argument / 256)) (self.now.instruction.argument % 256) ≡ true }
+        requires { is_selector (literal self.now.parcel.literals.now (self.now.instruction.argument / 256)) (self.now.instruction.argument % 256) ≡ true }
         ensures { Some result ≡ selector_of (literal self.now.parcel.literals.now (self.now.instruction.argument / 256)) }
     {
         let Some(Literal::Selector { number, .. }) = literal_at(
@@ -135,10 +146,10 @@ impl Turn<'_> {
         is_super: bool,
         host: &mut H,
         frame: &mut [Value],
-    ) -> Went
+    ) -> StepResult
         requires is { self.now.operation ≡ SendSelector is_super }
         requires long { Long (parts self.now.parcel) (length frame.old) }
-        ensures { Turned H.means H.may self.now frame.old host.old result frame.new host.new }
+        ensures { Performed H.means H.may self.now frame.old host.old result frame.new host.new }
     {
         let count = (self.instruction.argument % 256) as usize;
         self.send(is_super, self.selector(), count, host, frame)
@@ -146,7 +157,7 @@ impl Turn<'_> {
 
     // The number of the binding that the instruction names.
     fn binding(&self) -> u32
-        requires { binds (literal self.now.parcel.literals.now self.now.instruction.argument) ≡ true }
+        requires { is_binding (literal self.now.parcel.literals.now self.now.instruction.argument) ≡ true }
         ensures { Some result ≡ binding_of (literal self.now.parcel.literals.now self.now.instruction.argument) }
     {
         let Some(Literal::Binding(number)) = literal_at(
@@ -160,7 +171,7 @@ impl Turn<'_> {
 
     // The value of the literal that the instruction names.
     fn constant(&self) -> Value
-        requires { constant (literal self.now.parcel.literals.now self.now.instruction.argument) ≡ true }
+        requires { is_constant (literal self.now.parcel.literals.now self.now.instruction.argument) ≡ true }
         ensures { Some result ≡ constant_of (literal self.now.parcel.literals.now self.now.instruction.argument) }
     {
         let Some(Literal::Constant(value)) = literal_at(
@@ -172,11 +183,12 @@ impl Turn<'_> {
         value
     }
 
-    // The value that a source has. That a variable or a binding is there is known where the counts are compared.
+    // The value of a source. That the host has the variable or the binding is known where the counts
+    // are compared.
     fn value_from<H: Host>(&self, source: Source, host: &H, frame: &[Value]) -> Value
         requires is { self.now.operation ≡ Push source }
         requires long { Long (parts self.now.parcel) (length frame.now) }
-        ensures { Some result ≡ pushed_value (parts self.now.parcel) self.now.instruction source frame.now (H.means host.now) }
+        ensures { Some result ≡ source_value (parts self.now.parcel) self.now.instruction source frame.now (H.means host.now) }
     {
         let a = self.instruction.argument;
         match source {
@@ -193,26 +205,31 @@ impl Turn<'_> {
     }
 
     // Pushes from a source.
-    pub(crate) fn push_from<H: Host>(&self, source: Source, host: &H, frame: &mut [Value]) -> Went
+    pub(crate) fn push_from<H: Host>(
+        &self,
+        source: Source,
+        host: &H,
+        frame: &mut [Value],
+    ) -> StepResult
         requires is { self.now.operation ≡ Push source }
         requires long { Long (parts self.now.parcel) (length frame.old) }
-        ensures { Turned H.means H.may self.now frame.old host.now result frame.new host.now }
+        ensures { Performed H.means H.may self.now frame.old host.now result frame.new host.now }
     {
         let v = self.value_from(source, host, frame);
         self.push(v, frame)
     }
 
-    // Stores the top to a target. After a store to a binding the top is nil. That the host has the cell is known where the counts are compared, so that
-    // its answer is not looked at here.
+    // Stores the top to a target. After a store to a binding the top is nil. That the host has the
+    // cell is known where the counts are compared, so that its answer is not looked at here.
     pub(crate) fn store_to<H: Host>(
         &self,
         target: Target,
         host: &mut H,
         frame: &mut [Value],
-    ) -> Went
+    ) -> StepResult
         requires is { self.now.operation ≡ Store target }
         requires long { Long (parts self.now.parcel) (length frame.old) }
-        ensures { Turned H.means H.may self.now frame.old host.old result frame.new host.new }
+        ensures { Performed H.means H.may self.now frame.old host.old result frame.new host.new }
     {
         let a = self.instruction.argument;
         let v = self.top(frame);
@@ -226,7 +243,7 @@ impl Turn<'_> {
                 let _ = host.set_value(Row::Variables, a as usize, v);
             }
         }
-        self.on()
+        self.follow(self.height)
     }
 
     // The landing place of a jump.
@@ -243,20 +260,26 @@ impl Turn<'_> {
         .unwrap()
     }
 
-    // A conditional jump: what is neither true nor false is told that it must be Boolean, and the jump is taken.
-    pub(crate) fn branch<H: Host>(&self, when: bool, host: &mut H, frame: &[Value]) -> Went
+    // A conditional jump: what is neither true nor false is told that it must be Boolean, and the
+    // jump is taken.
+    pub(crate) fn branch<H: Host>(
+        &self,
+        when: bool,
+        host: &mut H,
+        frame: &mut [Value],
+    ) -> StepResult
         requires is { self.now.operation ≡ Branch when }
-        requires long { Long (parts self.now.parcel) (length frame.now) }
-        ensures { Turned H.means H.may self.now frame.now host.old result frame.now host.new }
+        requires long { Long (parts self.now.parcel) (length frame.old) }
+        ensures { Performed H.means H.may self.now frame.old host.old result frame.new host.new }
     {
         let place = self.land(Direction::Forward);
-        let height = self.after;
-        match self.top(frame) {
-            Value::True => Went::On {
+        let height = self.height - 1;
+        match self.pop(frame) {
+            Value::True => StepResult::Continued {
                 place: if when { place } else { self.next },
                 height,
             },
-            Value::False => Went::On {
+            Value::False => StepResult::Continued {
                 place: if when { self.next } else { place },
                 height,
             },
@@ -268,8 +291,8 @@ impl Turn<'_> {
                     arguments: &[],
                 };
                 match host.send(&demand) {
-                    Some(_) => Went::On { place, height },
-                    None => Went::Stopped(Stop::NotUnderstood {
+                    Some(_) => StepResult::Continued { place, height },
+                    None => StepResult::Stopped(Stop::NotUnderstood {
                         selector: MUST_BE_BOOLEAN,
                     }),
                 }

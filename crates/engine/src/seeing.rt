@@ -8,28 +8,29 @@ use parcels::Reader;
 use semantics::State;
 
 impl Run<'_> {
-    // The state.
+    /// The state.
     pub fn state(&self) -> State
         ensures { result ≡ (view self.now).state }
     {
         self.state
     }
 
-    // The place of the next instruction, or of the one that ended or stopped the run.
+    /// The place, in bytes of the code, of the next instruction, or of the one that ended or stopped
+    /// the run.
     pub fn place(&self) -> usize
         ensures { result ≡ (view self.now).place }
     {
         self.place
     }
 
-    // How many working cells are in use.
+    /// How many working cells are in use.
     pub fn height(&self) -> usize
         ensures { result ≡ (view self.now).height }
     {
         self.height
     }
 
-    // The opcode of the instruction at the place, if there is one.
+    /// The opcode of the instruction at the place, if there is one.
     pub fn opcode(&self) -> Option<u8>
         ensures { result ≡ elim (read_at (view self.now).parts.code (view self.now).place) [ Ok p ↦ Some p.0.opcode | Err e ↦ None ] }
     {

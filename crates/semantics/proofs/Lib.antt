@@ -1,2 +1,3 @@
 pub mod Executing
 pub mod Operations
+pub mod Telling

@@ -15,6 +15,7 @@ use Rattle.parcels.specs.declared.opcodes.Target.TheVariants as target
 use Rattle.parcels.specs.declared.opcodes.Operation.{Operation}
 use Rattle.parcels.specs.declared.opcodes.Operation.TheVariants.{Send, SendSelector, Push, Store, Jump, Branch, Pop, Duplicate, Close, End, Line}
 use Rattle.parcels.specs.declared.reading.Instruction.{Instruction}
+use Rattle.semantics.specs.declared.states.Stop.{Stop}
 use Rattle.semantics.specs.declared.states.Stop.TheVariants.{NotUnderstood, NoBlock}
 use Rattle.semantics.specs.Scripts.{Access, write_cell, read_literal, write_row, send, Answer, Outcome, continues, stops, must_be_boolean, Leaf, comes_to, stuck, Script, act, done, answered, given, choose, closed_over, special, integer, from_source, pushing, sending}
 use Rattle.semantics.specs.Execution.{answer_of, frame_after, Exec, ForAnswers, Everywhere}
@@ -50,13 +51,24 @@ module _ (F : Script → Type 0) where
   replied m None a b = a
   replied m (Some v) a b = b v
 
+-- the stops that an operation may make
+abbrev pub MayStop : Operation → Stop → Type 0
+MayStop Send (NotUnderstood n) = Unit {0}
+MayStop (SendSelector s) (NotUnderstood n) = Unit {0}
+MayStop (Branch w) (NotUnderstood n) = Unit {0}
+MayStop Close NoBlock = Unit {0}
+MayStop _ _ = ⊥
+
 module _ (p : Parts) (q h : ℕ) (i : Instruction) where
   abbrev next : ℕ
   next = q + 2 * i.pairs
 
-  -- a script of an operation goes on to a successor alone, at the height of the table
+  -- a script of an operation goes on to a successor alone, at the height of the table, and stops
+  -- for the operation's own reason alone
   abbrev pub Lands : Operation → Leaf → Type 0
-  Lands o (comes_to (continues r k)) = Among r (successors p.code q i o) × (k ≡ after (effect_of o i) h)
+  Lands o (comes_to (continues r k)) =
+      Among r (successors p.code q i o) × (k ≡ after (effect_of o i) h)
+  Lands o (comes_to (stops x)) = MayStop o x
   Lands o _ = Unit {0}
 
   abbrev Leads : Operation → Script → Type 0
@@ -76,16 +88,17 @@ module _ (p : Parts) (q h : ℕ) (i : Instruction) where
   sourced o source.Receiver k w = (tt, w)
 
   -- and a send
-  sends : (o : Operation) (super : Bool) (n c : ℕ) → Lands o (comes_to (continues (q + 2 * i.pairs) (h - c)))
+  sends : (o : Operation) (super : Bool) (n c : ℕ) → MayStop o (NotUnderstood n)
+      → Lands o (comes_to (continues (q + 2 * i.pairs) (h - c)))
       → Leads o (sending (code_context_of p) i (q + 2 * i.pairs) h super n c)
-  sends o super n c w =
-      (tt, λ r. (tt, λ xs. (tt, λ a. replied (Leads o) (message super n r xs) a tt (λ v. (tt, λ _. w)))))
+  sends o super n c x w =
+      (tt, λ r. (tt, λ xs. (tt, λ a. replied (Leads o) (message super n r xs) a x (λ v. (tt, λ _. w)))))
 
   pub leads_to : (o : Operation) → (effect_of o i).takes ≤ h → Leads o (script_at p q h i o)
-  leads_to Send n = sends Send false i.opcode (arity_of i.opcode) (inl refl, omega arith)
+  leads_to Send n = sends Send false i.opcode (arity_of i.opcode) tt (inl refl, omega arith)
   leads_to (SendSelector s) n =
       (tt, provided (Leads (SendSelector s)) (selector_of (literal p.literals (i.argument / 256))) tt
-      (λ m e. sends (SendSelector s) s m (i.argument % 256) (inl refl, omega arith)))
+      (λ m e. sends (SendSelector s) s m (i.argument % 256) tt (inl refl, omega arith)))
   leads_to (Push s) n =
       sourced (Push s) s (pushing (code_context_of p) i (q + 2 * i.pairs) h) (λ v. (tt, λ _. (inl refl, omega arith)))
   leads_to (Store target.Cell) n = (tt, λ v. (tt, λ _. (inl refl, omega arith)))
