@@ -1,6 +1,5 @@
-pub mod Operations
-pub mod Bounds
+pub mod Permitting
 pub mod Readiness
+pub mod Stepping
 pub mod Safety
-pub mod Tries
-pub mod Lawful
+pub mod Working

@@ -6,25 +6,25 @@ use Rattle.std.proofs.lemmas.Option.{same_Some}
 use Rattle.hosts.specs.Meaning.{Marks}
 use Rattle.parcels.specs.declared.layout.Kind.{Kind}
 use Rattle.parcels.specs.declared.layout.Kind.TheVariants.{Method, Block}
-use Rattle.parcels.specs.Layouts.{limit_of, kind_in, literal_count, laid_as}
+use Rattle.parcels.specs.Layouts.{limit_of, kind_in, literal_count_field, laid_as, header}
 use Rattle.parcels.specs.Opcodes.{operation_of, effect_of, after, flow_of}
 use Rattle.parcels.specs.Parts.{Parts}
 use Rattle.parcels.specs.Reading.{read_at, starts_at}
+use Rattle.parcels.specs.Instructions.{InstructionAt, Among, successors}
 use Rattle.parcels.specs.declared.literals.Literal.TheVariants.{Binding}
 use Rattle.parcels.specs.declared.opcodes.Operation.{Operation}
 use Rattle.parcels.specs.declared.reading.Instruction.{Instruction}
 use Rattle.stages.specs.Encoding.{context, stores_trusted}
-use Rattle.stages.specs.Operands.{operand_wrong}
-use Rattle.soundness.specs.Paths.{InstructionAt, Among, successors, Path, begins, goes_on, ValidHeights}
-use Rattle.soundness.specs.Rules.{ValidInstruction}
-use Rattle.soundness.specs.Verdicts.{header, parcel, IsValid}
+use Rattle.soundness.specs.Paths.{Path, start, extend, ValidHeights}
+use Rattle.soundness.specs.Rules.{OperandFits, LandingFits, ValidInstruction}
+use Rattle.soundness.specs.Verdicts.{parcel, IsValid}
 use Rattle.soundness.proofs.Transfers.{start_even, successor_is}
 use Rattle.soundness.proofs.Orders.{same_read}
 use Rattle.soundness.proofs.Readings.{spans, next_starts, first_starts}
-use Rattle.semantics.specs.RunView.{script_read, script_for, code_context_of, cells_of}
-use Rattle.semantics.specs.Scripts.{Script, script_of, Within}
+use Rattle.semantics.specs.Steps.{script_read, script_for, script_at}
+use Rattle.semantics.specs.Scripts.{Script}
 use Rattle.safety.specs.Ready.{unmarked, Ready}
-use Rattle.safety.proofs.Bounds.{literal_there, stays_within}
+use Rattle.safety.proofs.Permitting.{literal_there, Permits, permitted}
 
 -- the rules at a place do not hang on the marks, but for the stores
 rules_copied : (p : Parts) (m n : Marks) (t : Bool) (q : ℕ) → length m.variables ≡ length n.variables → ValidInstruction (context p m t) q → ValidInstruction (context p n true) q
@@ -32,7 +32,7 @@ rules_copied p m n t q e k = record {
   instruction = k.instruction;
   operation = k.operation;
   stands = k.stands;
-  operand = subst (λ (v : ℕ). operand_wrong p v k.instruction.argument k.operation ≡ false) e k.operand;
+  operand = subst (λ (v : ℕ). OperandFits p v k.instruction.argument k.operation) e k.operand;
   clear = k.clear;
   unmarked = λ x. absurd cc;
   returns = k.returns;
@@ -43,10 +43,10 @@ rules_copied p m n t q e k = record {
 }
 
 -- the layout has the literals of the header, whatever the kind
-same_literals : (b : List ℕ) → (parcel b).layout.literal_count ≡ literal_count b
+same_literals : (b : List ℕ) → (parcel b).layout.literal_count ≡ literal_count_field b
 same_literals b = by (kind_in b)
   where
-    by : (k : Kind) → (laid_as k (header b)).literal_count ≡ literal_count b
+    by : (k : Kind) → (laid_as k (header b)).literal_count ≡ literal_count_field b
     by Method = refl
     by Block = refl
 
@@ -66,7 +66,7 @@ accepted_ready m t b k =
         each = λ p s. rules_copied (parcel b) m (unmarked (length m.variables) (length m.bindings)) t p (sym (length-replicate (length m.variables) false)) (k.in_encoding.each p s);
       };
       heights = k.in_heights;
-      path = begins;
+      path = start;
     }
 
 -- no store of an untrusted parcel names a trusted cell
@@ -81,8 +81,8 @@ accepted_open m b k p i o s t =
 
 -- a path is where an instruction starts
 pub path_starts : (code : List ℕ) (limit : ℕ) → 0 < length code → ValidHeights code limit → {q h : ℕ} → Path code q h → starts_at code q ≡ true
-path_starts code limit pos kh begins = first_starts code pos
-path_starts code limit pos kh (goes_on {p = q} {s = s} {i = i} {o = o} path t m) = by (path_starts code limit pos kh path)
+path_starts code limit pos kh start = first_starts code pos
+path_starts code limit pos kh (extend {p = q} {s = s} {i = i} {o = o} path t n m) = by (path_starts code limit pos kh path)
   where
     by : starts_at code q ≡ true → starts_at code s ≡ true
     by starts = elim (successor_is code (flow_of o) (q + 2 * i.pairs) i.argument s m) [
@@ -95,35 +95,45 @@ path_starts code limit pos kh (goes_on {p = q} {s = s} {i = i} {o = o} path t m)
 
 -- and no higher than the limit
 pub path_low : (code : List ℕ) (limit : ℕ) → ValidHeights code limit → {q h : ℕ} → Path code q h → h ≤ limit
-path_low code limit kh begins = omega arith
-path_low code limit kh (goes_on path t m) = kh.within path t
+path_low code limit kh start = omega arith
+path_low code limit kh (extend path t n m) = kh.within path t
+
+-- the script of what stands at a place
+pub script_is : {p : Parts} {place height : ℕ} {i : Instruction} {o : Operation}
+    → InstructionAt p.code place i o
+    → script_read p place height (read_at p.code place) ≡ script_at p place height i o
+script_is {p} {place} {height} {i} {o} s =
+    ap (script_read p place height) s.read ∙ ap (script_for p place height i) s.known
 
 module _ {p : Parts} {variables bindings place height : ℕ} (r : Ready p variables bindings place height) where
   -- the rules at the place
   pub here : ValidInstruction (context p (unmarked variables bindings) true) place
   here = r.encoding.each place (path_starts p.code (limit_of p.layout) r.encoding.some r.heights r.path)
 
-  -- the next script is that of the instruction that stands there
-  pub script_is : {i : Instruction} {o : Operation} → InstructionAt p.code place i o → script_read p place height (read_at p.code place) ≡ script_of (code_context_of p) i (place + 2 * i.pairs) height o
-  script_is {i} {o} s = ap (script_read p place height) s.read ∙ ap (script_for p place height i) s.known
+  pub operand : OperandFits p variables here.instruction.argument here.operation
+  operand =
+      subst (λ (v : ℕ). OperandFits p v here.instruction.argument here.operation)
+      (length-replicate variables false) here.operand
 
-  -- it stays within the counts
-  pub within : Within (cells_of p) p.layout.literal_count variables bindings p.literals (script_read p place height (read_at p.code place))
-  within =
-      let k = here in
-      let i = k.instruction in
-      let o = k.operation in
-      let operand : operand_wrong p variables i.argument o ≡ false = subst (λ (v : ℕ). operand_wrong p v i.argument o ≡ false) (length-replicate variables false) k.operand in
-      subst (λ (c : Script). Within (cells_of p) p.layout.literal_count variables bindings p.literals c) (sym (script_is k.stands))
-      (stays_within p i (place + 2 * i.pairs) height variables bindings r.pool r.bound r.fits (path_low p.code (limit_of p.layout) r.heights r.path) o operand k.lands (r.heights.need r.path k.stands) (r.heights.within r.path k.stands))
+  pub need : (effect_of here.operation here.instruction).takes ≤ height
+  need = r.heights.need r.path here.stands
+
+  -- what the next script reads and writes is permitted
+  pub next_permitted : Permits p place height here.instruction variables bindings here.operation
+      (script_at p place height here.instruction here.operation)
+  next_permitted =
+      permitted p place height here.instruction variables bindings r.pool r.bound here.operation
+      operand here.lands need
 
   -- on to a successor
-  pub ready_on : {i : Instruction} {o : Operation} → InstructionAt p.code place i o → (q h : ℕ) → Among q (successors p.code place i o) → h ≡ after (effect_of o i) height → Ready p variables bindings q h
+  pub ready_on : {i : Instruction} {o : Operation} → InstructionAt p.code place i o → (q h : ℕ)
+      → Among q (successors p.code place i o) → h ≡ after (effect_of o i) height
+      → Ready p variables bindings q h
   ready_on s q h m e = record {
     pool = r.pool;
     bound = r.bound;
     fits = r.fits;
     encoding = r.encoding;
     heights = r.heights;
-    path = subst (λ (x : ℕ). Path p.code q x) (sym e) (goes_on r.path s m);
+    path = subst (λ (x : ℕ). Path p.code q x) (sym e) (extend r.path s (r.heights.need r.path s) m);
   }

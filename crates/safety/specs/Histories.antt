@@ -12,6 +12,7 @@ use Rattle.parcels.specs.declared.literals.Literal.TheVariants.{Selector}
 use Rattle.parcels.specs.declared.opcodes.Operation.{Operation}
 use Rattle.parcels.specs.declared.opcodes.Operation.TheVariants.{Send, SendSelector, Branch, Close}
 use Rattle.parcels.specs.declared.reading.Instruction.{Instruction}
+use Rattle.stages.specs.Check.{question_on}
 use Rattle.soundness.specs.Paths.{Path}
 use Rattle.semantics.specs.Scripts.{must_be_boolean}
 use Rattle.semantics.specs.Execution.{Everywhere}
@@ -118,8 +119,8 @@ module _ {S : Type 0} (means : S → Meaning) (may : S → Sent → Value → S 
   pub data Call : S → HeldRuns → S → HeldRuns → Type 0 where
     takes : {s : S} {rs : HeldRuns} → Call s rs s (rs ++ (Some empty ∷ []))
     opens : {s : S} {rs : HeldRuns} (k : ℕ) (run : RunView) → Holds rs k run
-        → (t : Bool) (b : List ℕ) (args f : List Value) (hs ws : List ℕ)
-        → Call s rs s (slice_set rs k (Some (opened (means s) t b args f hs ws run).run))
+        → (t : Bool) (b hs ws : List ℕ) (args f : List Value)
+        → Call s rs s (slice_set rs k (Some (opened (question_on (means s) t b hs ws) args f run).run))
     steps : {s : S} {rs : HeldRuns} (k : ℕ) (run run' : RunView) → Holds rs k run
         → (s' : S) (f f' : List Value) (a : CallAnswer) → Step means may run f s a run' f' s'
         → Call s rs s' (slice_set rs k (Some run'))
@@ -133,8 +134,8 @@ module _ {S : Type 0} (means : S → Meaning) (may : S → Sent → Value → S 
 
   -- if the call opened a parcel and was not refused, the parcel was untrusted
   abbrev pub OpensUntrusted : {s s' : S} {rs rs' : HeldRuns} → Call s rs s' rs' → Type 0
-  OpensUntrusted (opens {s} k run at t b args f hs ws) =
-      is_ok (opened (means s) t b args f hs ws run).answer ≡ true → t ≡ false
+  OpensUntrusted (opens {s} k run at t b hs ws args f) =
+      is_ok (opened (question_on (means s) t b hs ws) args f run).answer ≡ true → t ≡ false
   OpensUntrusted _ = Unit {0}
 
   -- every parcel that was opened was untrusted

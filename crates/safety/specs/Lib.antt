@@ -1,4 +1,4 @@
 pub mod Opening
 pub mod Ready
 pub mod Histories
-pub mod Tried
+pub mod Worked

@@ -9,6 +9,10 @@ use Rattle.semantics.specs.Execution.{Exec}
 use Rattle.semantics.specs.declared.states.Stop.TheVariants.{NotUnderstood, NoBlock}
 use Rattle.semantics.proofs.Executing.{sent_is}
 
+-- it continues
+abbrev pub Continues : Outcome → Type 0
+Continues o = (r : ℕ) × (k : ℕ) × (o ≡ continues r k)
+
 module _ (literals : List ℕ) {S : Type 0} (means : S → Meaning) (may : S → Sent → Value → S → Type 0) where
   -- what sending a message came to: on with an answer, or a stop
   abbrev pub Told : Sent → S → Outcome → (Outcome → Type 0) → Type 0
@@ -30,10 +34,6 @@ module _ (literals : List ℕ) {S : Type 0} (means : S → Meaning) (may : S →
       by (Some v) y (inr z) = let u = z.0 in absurd cc
       by None y (inl z) = let u = z.1 in absurd cc
       by None y (inr z) = inr (z.2, y.0)
-
-  -- it continues
-  abbrev pub Continues : Outcome → Type 0
-  Continues o = (r : ℕ) × (k : ℕ) × (o ≡ continues r k)
 
   module _ (c : CodeContext) (i : Instruction) (next h : ℕ)
       (f : List Value) (s : S) (o : Outcome) (f' : List Value) (s' : S) where

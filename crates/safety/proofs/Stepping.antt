@@ -1,0 +1,299 @@
+-- One step of a run that came from an acceptance.
+use Rattle.std.proofs.Common.{◌≡◌, ℕ, zero, suc, ◌+◌, ◌-◌, ◌*◌, ◌/◌, ◌%◌, ◌<◌, ◌≤◌, Bool, true, false, cond, not, ◌&&◌, eqb, ltb, ◌⊎◌, List, [], ◌∷◌, ◌++◌, length, get_or, set, is_ok, Some, None, Ok, Err, Option, Result, sym, refl, ap, ◌∙◌, subst, inl, inr, arith}
+use Rattle.std.specs.Prelude.{◌↔◌}
+use Rattle.std.proofs.lemmas.List.{get_or-set_same, get_or-set_other, get_or_past}
+use Rattle.std.proofs.lemmas.Bool.{cases_eq, cases_lt, eq-eqb, le-ltb}
+use Rattle.std.proofs.lemmas.Option.{none-some, same_Some}
+use Rattle.values.specs.Order.{first}
+use Rattle.values.specs.declared.faults.Fault.{Fault}
+use Rattle.values.specs.declared.kinds.Value.{Value}
+use Rattle.values.specs.declared.kinds.Value.TheVariants.{Nil, True, False, Block}
+use Rattle.hosts.specs.Meaning.{Meaning, Sent, Marks, Kept, Like, message, marks, marks_of, marks_in, marked, row_of}
+use Rattle.hosts.proofs.Cells.{row_marks, open_trusted, kept_same, kept_trans, like_trans, like_same}
+use Rattle.parcels.specs.Instructions.{InstructionAt, Among, successors}
+use Rattle.parcels.specs.Layouts.{limit_of}
+use Rattle.parcels.specs.Literals.{literal, selector_of}
+use Rattle.parcels.specs.Opcodes.{operation_of, arity_of, effect_of, after, landing_of}
+use Rattle.parcels.specs.Reading.{starts_at}
+use Rattle.parcels.specs.declared.literals.Literal.{Literal}
+use Rattle.parcels.specs.declared.literals.Literal.TheVariants.{Selector}
+use Rattle.parcels.specs.declared.opcodes.Direction.TheVariants.{Forward}
+use Rattle.parcels.specs.declared.opcodes.Operation.{Operation}
+use Rattle.parcels.specs.declared.opcodes.Operation.TheVariants.{Send, SendSelector, Push, Store, Jump, Branch, Pop, Duplicate, Close, End, Line}
+use Rattle.parcels.specs.declared.reading.Instruction.{Instruction}
+use Rattle.stages.specs.Encoding.{stores_trusted}
+use Rattle.stages.specs.Check.{Question, question_on, checked}
+use Rattle.stages.proofs.Trust.{marks_length}
+use Rattle.soundness.specs.Rules.{OperandFits, ValidInstruction}
+use Rattle.soundness.specs.Verdicts.{parcel, IsValid}
+use Rattle.soundness.proofs.Orders.{first_none, same_read}
+use Rattle.soundness.proofs.Verdict.{every_verdict_means}
+use Rattle.semantics.specs.Scripts.{Access, write_cell, write_row, Script, act, read_cell, read_literal, given, sending, branching, must_be_boolean, Leaf, comes_to, Outcome, continues, ends, stops}
+use Rattle.semantics.specs.Execution.{Exec, Everywhere}
+use Rattle.semantics.specs.Steps.{RunView, CallAnswer, moved, StepUnless, Step, step_tests, has_counts, is_live, frame_cells, working_base, code_context_of, script_at, next_script}
+use Rattle.semantics.specs.Laws.{in_frame, InUse, Spares, NotStuck, Within}
+use Rattle.semantics.specs.declared.states.State.{State}
+use Rattle.semantics.specs.declared.states.State.TheVariants.{Live, Ended, Stopped}
+use Rattle.semantics.specs.declared.states.Stop.{Stop}
+use Rattle.semantics.specs.declared.states.Stop.TheVariants.{NotUnderstood, NoBlock}
+use Rattle.semantics.proofs.Executing.{everywhere_leaf, everywhere_map, unwritten, like, kept}
+use Rattle.semantics.proofs.Operations.{Lands, MayStop, leads_to, script_laws}
+use Rattle.semantics.proofs.Telling.{Continues, send_told, branch_told, close_told}
+use Rattle.safety.specs.Opening.{Opened, open_tests, opened_unless, opened_by, opened, empty}
+use Rattle.safety.specs.Ready.{Ready}
+use Rattle.safety.specs.Histories.{HeldRuns, Holds, counts_of, stack_of, top_of, message_on, Sends, short, selector, branch, MeetsNoBlock, WellPlaced, Progress, Call, takes, opens, steps, collects, History, new, called, OpensUntrusted, Untrusted, Safe, EveryHistoryIsSafe}
+use Rattle.safety.proofs.Permitting.{Permits, stack_at, all_in_use, all_in_bounds, all_open}
+use Rattle.safety.proofs.Readiness.{accepted_ready, accepted_open, path_starts, path_low, script_is, here, operand, need, next_permitted, ready_on}
+
+-- a run that came from an acceptance over the marks m, trusted or not
+pub record Sound (m : Marks) (t : Bool) (run : RunView) : Type 0 where
+  pub ready : Ready run.parts run.variable_count run.binding_count run.place run.height
+  pub variables : run.variable_count ≡ length m.variables
+  pub bindings : run.binding_count ≡ length m.bindings
+  pub stores : t ≡ false → (q : ℕ) (i : Instruction) (o : Operation) → starts_at run.parts.code q ≡ true
+      → InstructionAt run.parts.code q i o → stores_trusted m run.parts.literals i.argument o ≡ false
+
+starts : {m : Marks} {t : Bool} {run : RunView} → Sound m t run → starts_at run.parts.code run.place ≡ true
+starts {run = run} s = let r = s.ready in path_starts run.parts.code _ r.encoding.some r.heights r.path
+
+-- the same instruction stands at a place
+same_at : {code : List ℕ} {p : ℕ} {i j : Instruction} {o u : Operation}
+    → InstructionAt code p i o → InstructionAt code p j u → (i ≡ j) × (o ≡ u)
+same_at {code} {p} {i} {j} s t =
+    let e = same_read code p i j s.rest t.rest s.read t.read in
+    (e, same_Some _ _ (sym s.known ∙ ap (λ (k : Instruction). operation_of k.opcode) e ∙ t.known))
+
+-- where it is placed
+placed : {m : Marks} {t : Bool} {run : RunView} → Sound m t run → WellPlaced run
+placed {run = run} s =
+    let r = s.ready in
+    let k = here r in
+    let same = sym (script_is {height = run.height} k.stands) in
+    let low = path_low run.parts.code (limit_of run.parts.layout) r.heights r.path in
+    let room = r.heights.within r.path k.stands in
+    record {
+      instruction = k.instruction;
+      operation = k.operation;
+      stands = k.stands;
+      starts = starts s;
+      reached = r.path;
+      only = λ h path. r.heights.one path r.path;
+      need = need r;
+      within =
+          subst (λ (c : Script). Everywhere run.parts.literals _ NotStuck c) same
+          (all_in_bounds run.parts run.place run.height k.instruction run.variable_count run.binding_count r.fits low k.operation room _ (next_permitted r));
+      in_use =
+          subst (λ (c : Script). Everywhere run.parts.literals (InUse (stack_of run k.instruction k.operation)) NotStuck c) same
+          (all_in_use run.parts run.place run.height k.instruction run.variable_count run.binding_count k.operation _ (next_permitted r));
+    }
+
+module _ {S : Type 0} (means : S → Meaning) (may : S → Sent → Value → S → Type 0) where
+  -- a step that is not refused
+  pub record Made (run : RunView) (f : List Value) (s : S) (a : CallAnswer)
+      (run' : RunView) (f' : List Value) (s' : S) : Type 0 where
+    pub outcome : Outcome
+    pub fine : a ≡ Ok tt
+    pub run_is : run' ≡ moved run outcome
+    pub came : Exec run.parts.literals means may (next_script run) f s outcome f' s'
+
+  pub made : (run : RunView) (f : List Value) (s : S) (a : CallAnswer)
+      (run' : RunView) (f' : List Value) (s' : S)
+      → first (step_tests run f (means s)) ≡ None → Step means may run f s a run' f' s'
+      → Made run f s a run' f' s'
+  made run f s a run' f' s' e st =
+      let x = subst (λ (o : Option Fault). StepUnless means may o run f s a run' f' s') e st in
+      record { outcome = x.0; fine = x.1; run_is = x.2; came = x.3 }
+
+  module _ (run : RunView) (m : Marks) (t : Bool) (sound : Sound m t run)
+      (f : List Value) (s : S) (a : CallAnswer) (run' : RunView) (f' : List Value) (s' : S)
+      (st : Made run f s a run' f' s') where
+    abbrev k : ValidInstruction _ _
+    k = here sound.ready
+
+    -- what may come of the script of what stands at the run's place
+    came_of : {i : Instruction} {o : Operation} → InstructionAt run.parts.code run.place i o
+        → Exec run.parts.literals means may (script_at run.parts run.place run.height i o) f s st.outcome f' s'
+    came_of x =
+        subst (λ (c : Script). Exec run.parts.literals means may c f s st.outcome f' s') (script_is x) st.came
+
+    lands : Lands run.parts run.place run.height k.instruction k.operation (comes_to st.outcome)
+    lands =
+        everywhere_leaf run.parts.literals means may (λ _. Unit {0})
+        (Lands run.parts run.place run.height k.instruction k.operation) _ f s st.outcome f' s'
+        (leads_to run.parts run.place run.height k.instruction k.operation (need sound.ready))
+        (came_of k.stands)
+
+    -- what a live run is after its step
+    pub still_sound : run'.state ≡ Live → Sound m t run'
+    still_sound l = by st.outcome refl lands (sym (ap (λ (r : RunView). r.state) st.run_is) ∙ l)
+      where
+        by : (x : Outcome) → st.outcome ≡ x
+            → Lands run.parts run.place run.height k.instruction k.operation (comes_to x)
+            → (moved run st.outcome).state ≡ Live → Sound m t run'
+        by (continues p h) e w q =
+            subst (λ (r : RunView). Sound m t r) (sym (st.run_is ∙ ap (moved run) e))
+            (record {
+              ready = ready_on sound.ready k.stands p h w.0 w.1;
+              variables = sound.variables;
+              bindings = sound.bindings;
+              stores = sound.stores;
+            })
+        by (ends x v) e w q = absurd (never (ap (λ (y : Outcome). (moved run y).state) (sym e) ∙ q))
+          where
+            never : Ended x v ≡ Live → ⊥
+            never q = absurd cc
+        by (stops x) e w q = absurd (never (ap (λ (y : Outcome). (moved run y).state) (sym e) ∙ q))
+          where
+            never : Stopped x ≡ Live → ⊥
+            never q = absurd cc
+
+    -- the state after a stop
+    stopped_to : (x : Stop) → st.outcome ≡ stops x → run'.state ≡ Stopped x
+    stopped_to x e = ap (λ (r : RunView). r.state) (st.run_is ∙ ap (moved run) e)
+
+    stopped_from : run.state ≡ Live → (x : Stop) → run'.state ≡ Stopped x → st.outcome ≡ stops x
+    stopped_from live x e = by st.outcome (sym (ap (λ (r : RunView). r.state) st.run_is) ∙ e)
+      where
+        by : (y : Outcome) → (moved run y).state ≡ Stopped x → y ≡ stops x
+        by (continues p h) q = let z = sym live ∙ q in absurd cc
+        by (ends w v) q = absurd cc
+        by (stops y) q = let same : y ≡ x = cc in ap stops same
+
+    -- what continues does not stop
+    goes_no_further : {x : Stop} → st.outcome ≡ stops x → Continues st.outcome → ⊥
+    goes_no_further e c = let z = sym c.2 ∙ e in absurd cc
+
+    -- it stopped at a message that is not understood: then it sent one
+    abbrev Unknown : ℕ → Type 0
+    Unknown n = (x : Sent) × Sends run f x × ((means s).understands x ≡ false) × (x.selector ≡ n)
+
+    same_selector : {x y : ℕ} → st.outcome ≡ stops (NotUnderstood x) → st.outcome ≡ stops (NotUnderstood y) → x ≡ y
+    same_selector e d = let z = sym e ∙ d in cc
+
+    unknown : (n : ℕ) → st.outcome ≡ stops (NotUnderstood n) → Unknown n
+    unknown n e =
+        by k.operation k.stands (operand sound.ready) (came_of k.stands)
+        (subst (λ (x : Outcome). Lands run.parts run.place run.height k.instruction k.operation (comes_to x)) e lands)
+      where
+        by : (o : Operation) → InstructionAt run.parts.code run.place k.instruction o
+            → OperandFits run.parts run.variable_count k.instruction.argument o
+            → Exec run.parts.literals means may (script_at run.parts run.place run.height k.instruction o) f s st.outcome f' s'
+            → MayStop o (NotUnderstood n) → Unknown n
+        by Send at fit x y = elim (send_told run.parts.literals means may _ k.instruction _ run.height f s st.outcome f' s' false k.instruction.opcode (arity_of k.instruction.opcode) x) [
+          | inl z ↦ absurd (goes_no_further e z.1)
+          | inr z ↦ (_, short at, z.0, same_selector z.1 e)
+        ]
+        by (SendSelector w) at fit x y =
+            elim (send_told run.parts.literals means may _ k.instruction _ run.height f s st.outcome f' s' w fit.0 (k.instruction.argument % 256)
+            (subst (λ (l : Option Literal). Exec run.parts.literals means may (given (selector_of l) (λ n. sending (code_context_of run.parts) k.instruction (run.place + 2 * k.instruction.pairs) run.height w n (k.instruction.argument % 256))) f s st.outcome f' s') fit.1 x)) [
+              | inl z ↦ absurd (goes_no_further e z.1)
+              | inr z ↦ (_, selector at fit.1, z.0, same_selector z.1 e)
+            ]
+        by (Branch w) at fit x y = on (landing_of run.parts.code Forward (run.place + 2 * k.instruction.pairs) k.instruction.argument) x
+          where
+            on : (l : Option ℕ)
+                → Exec run.parts.literals means may (given l (λ r. act (read_cell (working_base run.parts + (run.height - 1))) (branching (code_context_of run.parts) k.instruction (run.place + 2 * k.instruction.pairs) run.height w r))) f s st.outcome f' s'
+                → Unknown n
+            on None x = absurd x
+            on (Some r) x = elim (branch_told run.parts.literals means may _ k.instruction _ run.height f s st.outcome f' s' w r (top_of run f) x) [
+              | inl z ↦ absurd (goes_no_further e z.1)
+              | inr z ↦ elim z.2 [
+                | inl u ↦ absurd (goes_no_further e u.1)
+                | inr u ↦ (_, branch at z.0 z.1, u.0, same_selector u.1 e)
+              ]
+            ]
+        by o at fit x y = absurd y
+
+    -- and where it sends one that is not understood, it stops
+    contrary : {x : Bool} → x ≡ true → x ≡ false → ⊥
+    contrary e d = let z = sym e ∙ d in absurd cc
+
+    told : (x : Sent) → Sends run f x → (means s).understands x ≡ false → st.outcome ≡ stops (NotUnderstood x.selector)
+    told _ (short {i} at) u = elim (send_told run.parts.literals means may _ i _ run.height f s st.outcome f' s' false i.opcode (arity_of i.opcode) (came_of at)) [
+      | inl z ↦ absurd (contrary z.0 u)
+      | inr z ↦ z.1
+    ]
+    told _ (selector {i} {w} {n} at l) u =
+        elim (send_told run.parts.literals means may _ i _ run.height f s st.outcome f' s' w n (i.argument % 256)
+        (subst (λ (l : Option Literal). Exec run.parts.literals means may (given (selector_of l) (λ n. sending (code_context_of run.parts) i (run.place + 2 * i.pairs) run.height w n (i.argument % 256))) f s st.outcome f' s') l (came_of at))) [
+          | inl z ↦ absurd (contrary z.0 u)
+          | inr z ↦ z.1
+        ]
+    told _ (branch {i} {w} at not_true not_false) u = on (landing_of run.parts.code Forward (run.place + 2 * i.pairs) i.argument) (came_of at)
+      where
+        on : (l : Option ℕ)
+            → Exec run.parts.literals means may (given l (λ r. act (read_cell (working_base run.parts + (run.height - 1))) (branching (code_context_of run.parts) i (run.place + 2 * i.pairs) run.height w r))) f s st.outcome f' s'
+            → st.outcome ≡ stops (NotUnderstood must_be_boolean)
+        on None x = absurd x
+        on (Some r) x = elim (branch_told run.parts.literals means may _ i _ run.height f s st.outcome f' s' w r (top_of run f) x) [
+          | inl z ↦ elim z.0 [ | inl y ↦ absurd (not_true y) | inr y ↦ absurd (not_false y) ]
+          | inr z ↦ elim z.2 [ | inl y ↦ absurd (contrary y.0 u) | inr y ↦ y.1 ]
+        ]
+
+    -- it stopped for want of a block: then there was none, and the other way round
+    blockless : st.outcome ≡ stops NoBlock → MeetsNoBlock run f
+    blockless e =
+        by k.operation k.stands (came_of k.stands)
+        (subst (λ (x : Outcome). Lands run.parts run.place run.height k.instruction k.operation (comes_to x)) e lands)
+      where
+        by : (o : Operation) → InstructionAt run.parts.code run.place k.instruction o
+            → Exec run.parts.literals means may (script_at run.parts run.place run.height k.instruction o) f s st.outcome f' s'
+            → MayStop o NoBlock → MeetsNoBlock run f
+        by Close at x y = elim (close_told run.parts.literals means may _ k.instruction _ run.height f s st.outcome f' s' (top_of run f) _ x) [
+          | inl z ↦ absurd (goes_no_further e z.2)
+          | inr z ↦ record { instruction = k.instruction; closes = at; none = z.0 }
+        ]
+        by o at x y = absurd y
+
+    lacking : MeetsNoBlock run f → st.outcome ≡ stops NoBlock
+    lacking x = elim (close_told run.parts.literals means may _ x.instruction _ run.height f s st.outcome f' s' (top_of run f) _ (came_of x.closes)) [
+      | inl z ↦ absurd (x.none z.0 z.1)
+      | inr z ↦ z.1
+    ]
+
+    -- the working cells below those that it takes
+    spared_below : (j : ℕ) → working_base run.parts ≤ j
+        → j < working_base run.parts + (run.height - (effect_of k.operation k.instruction).takes)
+        → (x : Access) → InUse (stack_of run k.instruction k.operation) x → Spares (in_frame j) x
+    spared_below j low high (write_cell n v) w = λ e.
+        let z : n ≡ j = cc in
+        elim w [ | inl y ↦ absurd (omega (arith, y, z, low)) | inr y ↦ absurd (omega (arith, y.0, z, high)) ]
+    spared_below j low high (write_row r n v) w = λ e. absurd cc
+    spared_below j low high x w = tt
+
+    kept_below : {i : Instruction} {o : Operation} → InstructionAt run.parts.code run.place i o
+        → (j : ℕ) → working_base run.parts ≤ j
+        → j < working_base run.parts + (run.height - (effect_of o i).takes)
+        → get_or f' j Nil ≡ get_or f j Nil
+    kept_below at j low high =
+        let same = same_at at k.stands in
+        let h = subst (λ (i : Instruction). j < working_base run.parts + (run.height - (effect_of k.operation i).takes)) same.0
+        (subst (λ (o : Operation). j < working_base run.parts + (run.height - (effect_of o _).takes)) same.1 high) in
+        unwritten run.parts.literals means may (in_frame j) (next_script run) f s st.outcome f' s'
+        (everywhere_map run.parts.literals (InUse (stack_of run k.instruction k.operation)) (Spares (in_frame j)) NotStuck (λ _. Unit {0})
+        (spared_below j low h) (λ l x. tt) (next_script run) (placed sound).in_use) st.came
+
+    pub progress : run.state ≡ Live → Progress means may run f s a run' f'
+    progress live = record {
+      unrefused = st.fine;
+      not_understood = λ n.
+          (λ e. unknown n (stopped_from live (NotUnderstood n) e),
+          λ x. stopped_to (NotUnderstood n) (told x.0 x.1 x.2 ∙ ap (λ (k : ℕ). stops (NotUnderstood k)) x.3));
+      no_block = (λ e. blockless (stopped_from live NoBlock e), λ x. stopped_to NoBlock (lacking x));
+      below = kept_below;
+      behind = λ j past.
+          (script_laws means may).beyond run.parts run.place run.height k.instruction k.operation (counts_of run)
+          f f' s s' st.outcome
+          (subst (λ (c : Script). Within run.parts.literals (counts_of run) c) (script_is k.stands) (placed sound).within)
+          (came_of k.stands) j past;
+    }
+
+    -- an untrusted run's step keeps the trusted cells
+    pub keeps : ((s t : S) (m : Sent) (v : Value) → may s m v t → Kept (means s) (means t))
+        → t ≡ false → marks_of (means s) ≡ m → Kept (means s) (means s')
+    keeps lawful u e =
+        kept run.parts.literals means may lawful m NotStuck
+        (script_at run.parts run.place run.height k.instruction k.operation) f s st.outcome f' s' e
+        (all_open run.parts run.place run.height k.instruction run.variable_count run.binding_count m k.operation
+        (sound.stores u run.place k.instruction k.operation (starts sound) k.stands) _ (next_permitted sound.ready))
+        (came_of k.stands)
