@@ -1,5 +1,5 @@
 -- What readiness gives at the place of a live run.
-use Rattle.std.proofs.Common.{◌≡◌, ℕ, ◌+◌, ◌*◌, ◌≤◌, false, List, length, replicate, Some, None, Ok, Err, sym, ap, ◌∙◌, subst, arith}
+use Rattle.std.proofs.Common.{◌≡◌, ℕ, ◌+◌, ◌*◌, ◌≤◌, true, false, List, length, replicate, Some, None, Ok, Err, sym, ap, ◌∙◌, subst, arith}
 use Rattle.std.proofs.lemmas.Option.{same_Some}
 use mathlib.Core.Bool.{Bool-set}
 use mathlib.Core.HLevel.{⊥_prop}
@@ -13,9 +13,11 @@ use Rattle.parcels.specs.Reading.{read_at}
 use Rattle.parcels.specs.declared.opcodes.Operation.{Operation}
 use Rattle.parcels.specs.declared.reading.Instruction.{Instruction}
 use Rattle.parcels.specs.declared.reading.Unreadable.{Unreadable}
-use Rattle.stages.specs.Encoding.{lands_wrong}
-use Rattle.stages.specs.Operands.{operand_wrong}
-use Rattle.soundness.specs.Paths.{InstructionAt, Among, successors}
+use Rattle.stages.specs.Encoding.{landing_fits}
+use Rattle.stages.specs.Operands.{operand_fits}
+use Rattle.soundness.specs.Rules.{OperandFits, LandingFits}
+use Rattle.soundness.proofs.Operands.{operand_fits_true, landing_fits_true}
+use Rattle.parcels.specs.Instructions.{InstructionAt, Among, successors}
 use Rattle.soundness.proofs.Orders.{same_read}
 use Rattle.safety.specs.Ready.{Ready}
 use Rattle.safety.proofs.Readiness.{here, path_low, ready_on}
@@ -50,16 +52,18 @@ module _ {p : Parts} {v b place h : ℕ} (t : ∥ Ready p v b place h ∥₁) wh
     pub locals : p.layout.local_count ≤ p.layout.slot_count
     locals = ∥∥₁_elim t le_prop (λ r. r.fits)
 
-    pub operand : operand_wrong p v i.argument o ≡ false
+    pub operand : operand_fits p v i.argument o ≡ true
     operand = ∥∥₁_elim t (Bool-set _ _) (λ r.
-        subst (λ (n : ℕ). operand_wrong p n i.argument o ≡ false) (length-replicate v false)
-        (subst (λ (j : Instruction). operand_wrong p (length (replicate v false)) j.argument o ≡ false) (same r i s.rest s.read)
-        (subst (λ (x : Operation). operand_wrong p (length (replicate v false)) (here r).instruction.argument x ≡ false) (does r) (here r).operand)))
+        operand_fits_true p v i.argument o
+        (subst (λ (n : ℕ). OperandFits p n i.argument o) (length-replicate v false)
+        (subst (λ (j : Instruction). OperandFits p (length (replicate v false)) j.argument o) (same r i s.rest s.read)
+        (subst (λ (x : Operation). OperandFits p (length (replicate v false)) (here r).instruction.argument x) (does r) (here r).operand))))
 
-    pub lands : lands_wrong p.code (place + 2 * i.pairs) i.argument (flow_of o) ≡ false
+    pub lands : landing_fits p.code (place + 2 * i.pairs) i.argument (flow_of o) ≡ true
     lands = ∥∥₁_elim t (Bool-set _ _) (λ r.
-        subst (λ (j : Instruction). lands_wrong p.code (place + 2 * j.pairs) j.argument (flow_of o) ≡ false) (same r i s.rest s.read)
-        (subst (λ (x : Operation). lands_wrong p.code (place + 2 * (here r).instruction.pairs) (here r).instruction.argument (flow_of x) ≡ false) (does r) (here r).lands))
+        landing_fits_true p.code (place + 2 * i.pairs) i.argument (flow_of o)
+        (subst (λ (j : Instruction). LandingFits p.code (place + 2 * j.pairs) j.argument (flow_of o)) (same r i s.rest s.read)
+        (subst (λ (x : Operation). LandingFits p.code (place + 2 * (here r).instruction.pairs) (here r).instruction.argument (flow_of x)) (does r) (here r).lands)))
 
     -- readiness at a successor
     pub onward : (q k : ℕ) → Among q (successors p.code place i o) → k ≡ after (effect_of o i) h → ∥ Ready p v b q k ∥₁

@@ -1,30 +1,43 @@
--- Where a turn leads.
-use Rattle.std.proofs.Common.{◌≡◌, ℕ, ◌∙◌, List, Some, None, Ok, Option, ap, subst}
+-- Where the next instruction leads.
+use Rattle.std.proofs.Common.{◌≡◌, ℕ, ◌+◌, ◌*◌, ◌≤◌, ◌∙◌, List, Some, None, Ok, Option, ap, sym, subst}
 use Rattle.values.specs.declared.kinds.Value.{Value}
 use Rattle.hosts.specs.Meaning.{Meaning, Sent}
-use Rattle.parcels.specs.Opcodes.{effect_of, after, flow_of, successors_of}
+use Rattle.parcels.specs.Instructions.{Among, successors}
+use Rattle.parcels.specs.Opcodes.{effect_of, after}
 use Rattle.parcels.specs.Parts.{Parts, parts}
 use Rattle.parcels.specs.declared.opcodes.Operation.{Operation}
-use Rattle.soundness.specs.Paths.{Among}
-use Rattle.semantics.specs.RunView.{RunView}
+use Rattle.semantics.specs.Execution.{Exec}
+use Rattle.semantics.specs.Scripts.{Script, script_of}
+use Rattle.semantics.specs.Steps.{RunView, code_context_of, script_at}
+use Rattle.semantics.specs.Laws.{ScriptLaws}
 use Rattle.semantics.specs.declared.states.State.TheVariants.{Live}
-use Rattle.semantics.proofs.Following.{leads}
+use Rattle.semantics.proofs.Operations.{script_laws}
 use Rattle.safety.specs.Ready.{Ready}
-use Rattle.safety.proofs.Operations.{leads_to}
-use Rattle.engine.proofs.Fetching.{onward}
-use Rattle.engine.specs.Turns.{outcome_of, script_in, HasTurn, GoesReady, Performed}
-use Rattle.engine.specs.declared.turns.Turn.{Turn}
-use Rattle.engine.specs.declared.turns.Went.{Went}
+use Rattle.engine.proofs.Fetching.{need, onward}
+use Rattle.engine.specs.Decoding.{outcome_of, script_in, HasDecoded, NextDecoded, ContinuesReady, PerformedNext}
+use Rattle.engine.specs.declared.decoded.Decoded.{Decoded}
+use Rattle.engine.specs.declared.decoded.StepResult.{StepResult}
+
+-- the script of a decoded instruction is that of the run's next instruction
+script_is : (run : RunView) (d : Decoded) → NextDecoded run d
+    → script_in d ≡ script_at run.parts run.place run.height d.instruction d.operation
+script_is run d n =
+    ap (λ (p : Parts). script_of (code_context_of p) d.instruction d.next d.height d.operation) n.parcel
+    ∙ ap (λ (q : ℕ). script_of (code_context_of run.parts) d.instruction q d.height d.operation) n.following
+    ∙ ap (λ (h : ℕ). script_of (code_context_of run.parts) d.instruction (run.place + 2 * d.instruction.pairs) h d.operation) n.at
 
 module _ {S : Type 0} (means : S → Meaning) (may : S → Sent → Value → S → Type 0) (run : RunView) where
-  -- wherever the turn of a ready run goes on, the run is ready
-  pub led : (n : Option (Operation × Turn)) (f : List Value) (s : S) (w : Went) (f' : List Value) (s' : S)
-      → HasTurn run n → (run.state ≡ Live → ∥ Ready run.parts run.variables run.bindings run.place run.height ∥₁) → Performed means may run n s f (Ok w) s' f' → GoesReady run w
+  -- wherever the next instruction of a ready run continues, the run is ready
+  pub led : (n : Option (Operation × Decoded)) (f : List Value) (s : S) (w : StepResult) (f' : List Value) (s' : S)
+      → HasDecoded run n
+      → (run.state ≡ Live → ∥ Ready run.parts run.variable_count run.binding_count run.place run.height ∥₁)
+      → PerformedNext means may run n f s (Ok w) f' s' → ContinuesReady run w
   led None f s w f' s' n ready r p h e = absurd r
-  led (Some (o, t)) f s w f' s' n ready r p h e =
-      let x = leads means may t.parcel.literals.now (λ q k. Among q (successors_of t.parcel.code.now (flow_of t.operation) t.next t.instruction.argument) × (k ≡ after (effect_of t.operation t.instruction) t.height))
-      (script_in t) f s (outcome_of w) f' s' (leads_to (parts t.parcel) t.instruction t.next t.height t.operation) r.1 p h e in
-      onward (ready r.0) n.1.stands p h
-      (subst (λ (y : ℕ). Among p (successors_of run.parts.code (flow_of t.operation) y t.instruction.argument)) n.1.following
-      (subst (λ (y : Parts). Among p (successors_of y.code (flow_of t.operation) t.next t.instruction.argument)) n.1.parcel x.0))
-      (x.1 ∙ ap (λ (k : ℕ). after (effect_of t.operation t.instruction) k) n.1.at)
+  led (Some (o, d)) f s w f' s' n ready r p h e =
+      let t = ready r.0 in
+      let x = subst (λ (c : Script). Exec d.parcel.literals.now means may c f s (outcome_of w) f' s') (script_is run d n.1) r.1 in
+      let y = subst (λ (q : Parts). Exec q.literals means may (script_at run.parts run.place run.height d.instruction d.operation) f s (outcome_of w) f' s') n.1.parcel x in
+      let l = (script_laws means may).leads run.parts run.place run.height d.instruction d.operation f f' s s' p h
+          (need t n.1.stands)
+          (subst (λ z. Exec run.parts.literals means may (script_at run.parts run.place run.height d.instruction d.operation) f s z f' s') e y) in
+      onward t n.1.stands p h l.0 l.1

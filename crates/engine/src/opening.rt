@@ -1,15 +1,13 @@
 // Empty runs, opening and collecting.
 ghost use Rattle.std.specs.Prelude.{◌≡◌, length, Some, None};
 ghost use Rattle.values.specs.Order.{first, unless};
-ghost use Rattle.hosts.specs.Meaning.{marks_of};
 ghost use Rattle.parcels.specs.Parts.{parts};
-ghost use Rattle.stages.specs.Check.{checked};
-ghost use Rattle.soundness.specs.Verdicts.{parcel};
+ghost use Rattle.stages.specs.Check.{question_on, checked};
 ghost use Rattle.semantics.specs.Steps.{value_in};
-ghost use Rattle.safety.specs.Opening.{open_tests, opened, begun, laid, empty};
+ghost use Rattle.safety.specs.Opening.{open_tests, opened, begun, laid_out_frame, empty};
 ghost use Rattle.safety.specs.Histories.{ExtendsHistory};
 ghost use Rattle.safety.specs.Ready.{Ready};
-ghost use Rattle.safety.specs.Tried.{WorkedRuns};
+ghost use Rattle.safety.specs.Worked.{WorkedRuns};
 ghost use Rattle.engine.specs.Decoding.{if_ok};
 ghost use Rattle.engine.specs.View.{view};
 
@@ -25,7 +23,7 @@ impl<'a> Run<'a> {
     /// A run that is ended by return with nil, at place 0.
     pub fn empty() -> Run<'a>
         ensures run { view result ≡ empty }
-        ensures tried { WorkedRuns }
+        ensures worked { WorkedRuns }
     {
         let layout = Layout {
             kind: CodeKind::Method,
@@ -75,8 +73,8 @@ impl<'a> Run<'a> {
     ) -> Result<(), Fault>
         requires { Ready (parts parcel) (length (H.means host.now).variables) (length (H.means host.now).bindings) 0 0 }
         ensures answer { result ≡ unless (first (open_tests (parts parcel.entry) arguments.now frame.old)) tt }
-        ensures run { view self.new ≡ if_ok result (begun (parts parcel.entry) (H.means host.now)) (view self.old) }
-        ensures frame { frame.new ≡ if_ok result (laid (parts parcel.entry) arguments.now frame.old) frame.old }
+        ensures run { view self.new ≡ if_ok result (begun (parts parcel.entry) (length (H.means host.now).variables) (length (H.means host.now).bindings)) (view self.old) }
+        ensures frame { frame.new ≡ if_ok result (laid_out_frame (parts parcel.entry) arguments.now frame.old) frame.old }
     {
         let layout = parcel.layout;
         if arguments.len() != layout.argument_count as usize {
@@ -112,11 +110,11 @@ impl<'a> Run<'a> {
         heights: &mut [u8],
         waiting: &mut [u16],
     ) -> Result<u8, Fault>
-        ensures answer { result ≡ (opened (H.means host.now) trusted bytes.now arguments.now frame.old heights.old waiting.old (view self.old)).answer }
-        ensures run { view self.new ≡ (opened (H.means host.now) trusted bytes.now arguments.now frame.old heights.old waiting.old (view self.old)).run }
-        ensures frame { frame.new ≡ (opened (H.means host.now) trusted bytes.now arguments.now frame.old heights.old waiting.old (view self.old)).frame }
-        ensures heights { heights.new ≡ (checked (marks_of (H.means host.now)) trusted bytes.now heights.old waiting.old).heights }
-        ensures waiting { waiting.new ≡ (checked (marks_of (H.means host.now)) trusted bytes.now heights.old waiting.old).waiting }
+        ensures answer { result ≡ (opened (question_on (H.means host.now) trusted bytes.now heights.old waiting.old) arguments.now frame.old (view self.old)).answer }
+        ensures run { view self.new ≡ (opened (question_on (H.means host.now) trusted bytes.now heights.old waiting.old) arguments.now frame.old (view self.old)).run }
+        ensures frame { frame.new ≡ (opened (question_on (H.means host.now) trusted bytes.now heights.old waiting.old) arguments.now frame.old (view self.old)).frame }
+        ensures heights { heights.new ≡ (checked (question_on (H.means host.now) trusted bytes.now heights.old waiting.old)).heights }
+        ensures waiting { waiting.new ≡ (checked (question_on (H.means host.now) trusted bytes.now heights.old waiting.old)).waiting }
         ensures extends { ExtendsHistory H.means H.may host.now (view self.old) host.now (Some (view self.new)) }
     {
         let top = check(host, bytes, trusted, heights, waiting)?;

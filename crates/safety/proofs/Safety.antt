@@ -78,7 +78,7 @@ data AfterOpening (q : Question) (run : RunView) : Opened → Type 0 where
 after_opening : (q : Question) (args f : List Value) (run : RunView) → AfterOpening q run (opened q args f run)
 after_opening q args f run = by (checked q).verdict refl
   where
-    begun_sound : IsValid q.marks q.trusted q.bytes → Sound q.marks q.trusted (begun (parcel q.bytes) q.marks)
+    begun_sound : IsValid q.marks q.trusted q.bytes → Sound q.marks q.trusted (begun (parcel q.bytes) (length q.marks.variables) (length q.marks.bindings))
     begun_sound k = record {
       ready = accepted_ready q.marks q.trusted q.bytes k;
       variables = refl;

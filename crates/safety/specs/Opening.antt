@@ -22,11 +22,11 @@ open_tests p args f =
     ∷ []
 
 -- a run at its beginning: live, at place 0 with height 0; it notes the host's counts
-abbrev pub begun : Parts → Marks → RunView
-begun p m = record {
+abbrev pub begun : Parts → (variables bindings : ℕ) → RunView
+begun p v b = record {
   parts = p;
-  variable_count = length m.variables;
-  binding_count = length m.bindings;
+  variable_count = v;
+  binding_count = b;
   state = Live;
   place = 0;
   height = 0;
@@ -47,10 +47,15 @@ abbrev pub not_opened : Fault → RunView → (f : List Value) → Opened
 not_opened x run f = record { answer = Err x; run = run; frame = f }
 
 -- a run of an accepted parcel of greatest height top, unless opening is refused
-abbrev pub opened_unless : Option Fault → (top : ℕ) → Parts → Marks → (args f : List Value) → RunView → Opened
+abbrev pub opened_unless : Option Fault → (top : ℕ) → Parts → Marks → (args f : List Value)
+    → RunView → Opened
 opened_unless (Some x) top p m args f run = not_opened x run f
 opened_unless None top p m args f run =
-    record { answer = Ok top; run = begun p m; frame = laid_out_frame p args f }
+    record {
+      answer = Ok top;
+      run = begun p (length m.variables) (length m.bindings);
+      frame = laid_out_frame p args f;
+    }
 
 -- what comes of a parcel by the verdict on it
 abbrev pub opened_by : Result ℕ Fault → Parts → Marks → (args f : List Value) → RunView → Opened

@@ -3,7 +3,7 @@ use Rattle.std.proofs.lemmas.Int.{ints, to_z-of_z}
 use Rattle.values.specs.Kinds.{integer}
 use Rattle.values.proofs.Smalls.{answered}
 use Rattle.semantics.specs.Scripts.{integer as pushed}
-use Rattle.engine.proofs.turns.Turn.value_from.Goals as goal
+use Rattle.engine.proofs.decoded.Decoded.value_from.Goals as goal
 
 pub returns-in-Integer : goal.returns-in-Integer
 returns-in-Integer g c =

@@ -3,12 +3,13 @@ use Rattle.values.specs.declared.kinds.Value.{Value}
 use Rattle.hosts.specs.Meaning.{Meaning, Sent}
 use Rattle.parcels.specs.Parts.{Parts, parts}
 use Rattle.stages.proofs.Exits.{passed_on}
-use Rattle.semantics.specs.RunView.{RunView}
+use Rattle.stages.specs.Check.{question_on}
+use Rattle.semantics.specs.Steps.{RunView}
 use Rattle.safety.specs.Opening.{Opened, opened}
-use Rattle.safety.specs.Histories.{ExtendsHistory, History, opens}
+use Rattle.safety.specs.Histories.{ExtendsHistory, History, called, opens}
 use Rattle.safety.specs.Ready.{Ready}
 use Rattle.engine.specs.View.{view}
-use Rattle.engine.proofs.Accepting.{accepted_begins, same_parts, opened_by, opened_is}
+use Rattle.engine.proofs.Accepting.{accepted_begins, same_parts, opened_so, opened_is}
 use Rattle.engine.proofs.runs.Run.open.Given.{Over}
 use Rattle.engine.proofs.runs.Run.open.Goals as goal
 use Rattle.engine.proofs.runs.Run.open.Goals.{After-begin}
@@ -21,17 +22,23 @@ begin-requires g c =
     (sym (same_parts m c.args.trusted c.args.bytes.now c.args.heights.now c.args.waiting.now c.in_ok-top.top e (parts c.in-Ok.parcel) c.in-Ok.ensures.answer))
     (accepted_begins m c.args.trusted c.args.bytes.now c.args.heights.now c.args.waiting.now c.in_ok-top.top e)
 
--- a history goes on by an opening
-on : {S : Type 0} (means : S → Meaning) (may : S → Sent → Value → S → Type 0) (s : S) (t : Bool) (b : List ℕ) (args f : List Value) (hs ws : List ℕ) (run run' : RunView)
-    → (opened (means s) t b args f hs ws run).run ≡ run' → ExtendsHistory means may s run s (Some run')
-on means may s t b args f hs ws run run' e = λ s₀ rs k past held. subst (λ (r : RunView). History means may s₀ s (set rs k (Some r))) e (opens past k run held t b args f hs ws)
+-- an opening extends a history
+extends : {S : Type 0} (means : S → Meaning) (may : S → Sent → Value → S → Type 0) (s : S) (t : Bool)
+    (b hs ws : List ℕ) (args f : List Value) (run run' : RunView)
+    → (opened (question_on (means s) t b hs ws) args f run).run ≡ run'
+    → ExtendsHistory means may s run s (Some run')
+extends means may s t b hs ws args f run run' e = λ s₀ rs k past held.
+    subst (λ (r : RunView). History means may s₀ s (set rs k (Some r))) e
+    (called past (opens k run held t b hs ws args f))
 
 -- what opening is
-abbrev said : (g : Over) → After-begin g → Opened
-said g c = opened (g.H.Host.means c.args.host.now) c.args.trusted c.args.bytes.now c.args.arguments.now c.args.frame.now c.args.heights.now c.args.waiting.now (view c.args.self.now)
+abbrev pub said : (g : Over) → After-begin g → Opened
+said g c =
+    opened (question_on (g.H.Host.means c.args.host.now) c.args.trusted c.args.bytes.now c.args.heights.now c.args.waiting.now)
+    c.args.arguments.now c.args.frame.now (view c.args.self.now)
 
 -- it is by what beginning answers
-opening : (g : Over) (c : After-begin g) → opened_by c.begin.result c.in_ok-top.top (parts c.in-Ok.parcel) (g.H.Host.means c.args.host.now) c.args.arguments.now c.args.frame.now (view c.args.self.now) ≡ said g c
+opening : (g : Over) (c : After-begin g) → opened_so c.begin.result c.in_ok-top.top (parts c.in-Ok.parcel) (g.H.Host.means c.args.host.now) c.args.arguments.now c.args.frame.now (view c.args.self.now) ≡ said g c
 opening g c =
     opened_is (g.H.Host.means c.args.host.now) c.args.trusted c.args.bytes.now c.args.heights.now c.args.waiting.now c.in_ok-top.top c.in_ok-top.ensures.verdict
     c.args.arguments.now c.args.frame.now (view c.args.self.now) c.begin.result (parts c.in-Ok.parcel) c.in-Ok.ensures.answer c.begin.ensures.answer
@@ -64,7 +71,7 @@ returns-clause-run g c = run_is g (goal.at.returns-clause-run g c).After-begin
 pub returns-clause-frame : goal.returns-clause-frame
 returns-clause-frame g c = frame_is g (goal.at.returns-clause-frame g c).After-begin
 
-pub returns-clause-on : goal.returns-clause-on
-returns-clause-on g c =
-    on g.H.Host.means g.H.Host.may c.args.host.now c.args.trusted c.args.bytes.now c.args.arguments.now c.args.frame.now c.args.heights.now c.args.waiting.now (view c.args.self.now) _
-    (sym (run_is g (goal.at.returns-clause-on g c).After-begin))
+pub returns-clause-extends : goal.returns-clause-extends
+returns-clause-extends g c =
+    extends g.H.Host.means g.H.Host.may c.args.host.now c.args.trusted c.args.bytes.now c.args.heights.now c.args.waiting.now c.args.arguments.now c.args.frame.now (view c.args.self.now) _
+    (sym (run_is g (goal.at.returns-clause-extends g c).After-begin))
