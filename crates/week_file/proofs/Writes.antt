@@ -3,7 +3,7 @@ use Rattle.std.proofs.Common.{◌≡◌, ℕ, zero, suc, ◌+◌, ◌-◌, ◌*�
 use Rattle.std.proofs.lemmas.List.{length-take-le, get_or_append_left, get_or-append_right, get_or-take, get_or-drop}
 use Rattle.std.proofs.lemmas.Bool.{cases_order}
 use Rattle.values.specs.Bytes.{at, be16, be32}
-use Rattle.values.specs.Kinds.{kind_of, number_of}
+use Rattle.values.specs.Kinds.{kind_number, number_field}
 use Rattle.values.specs.declared.kinds.Value.{Value}
 use Rattle.values.specs.declared.kinds.Value.TheVariants.{Nil, Object}
 use Rattle.values.proofs.Parts.{read_back}
@@ -70,16 +70,16 @@ module _ (b : List ℕ) (o : ℕ) (v : Value) (h : o + 6 ≤ length b) where
       let q : k - (o + 1) ≡ j = omega arith in
       past k (omega arith) ∙ ap (at (five_bytes v ++ drop (o + 6) b)) q
 
-  number_here : be32 (written b o v) (o + 2) ≡ number_of v
+  number_here : be32 (written b o v) (o + 2) ≡ number_field v
   number_here =
-      let n = number_of v in
+      let n = number_field v in
       let p₀ : at (written b o v) (o + 2) ≡ n / 16777216 = inside 1 (o + 2) (omega arith) in
       let p₁ : at (written b o v) (o + 2 + 1) ≡ n / 65536 % 256 = inside 2 (o + 2 + 1) (omega arith) in
       let p₂ : at (written b o v) (o + 2 + 2) ≡ n / 256 % 256 = inside 3 (o + 2 + 2) (omega arith) in
       let p₃ : at (written b o v) (o + 2 + 3) ≡ n % 256 = inside 4 (o + 2 + 3) (omega arith) in
       omega arith
 
-  cell_here : raw_at (written b o v) o ≡ raw (at b o) (kind_of v) (number_of v)
+  cell_here : raw_at (written b o v) o ≡ raw (at b o) (kind_number v) (number_field v)
   cell_here = same_raw _ _ _ _ _ _ (before o (omega arith)) (inside 0 (o + 1) (omega arith)) number_here
 
   -- v is put into the cell number i of n that begin at p
@@ -87,7 +87,7 @@ module _ (b : List ℕ) (o : ℕ) (v : Value) (h : o + 6 ≤ length b) where
   cells_put p zero i l e = absurd (not-suc-le-zero l)
   cells_put p (suc n) zero l e =
       let q : o ≡ p = omega arith in
-      ap (λ x. cell_of x ∷ cells (written b o v) (p + 6) n) (subst (λ (z : ℕ). raw_at (written b o v) z ≡ raw (at b z) (kind_of v) (number_of v)) q cell_here)
+      ap (λ x. cell_of x ∷ cells (written b o v) (p + 6) n) (subst (λ (z : ℕ). raw_at (written b o v) z ≡ raw (at b z) (kind_number v) (number_field v)) q cell_here)
       ∙ ap (λ x. record { trusted = (cell_of (raw_at b p)).trusted; value = unwrap_or x Nil } ∷ cells (written b o v) (p + 6) n) (read_back v)
       ∙ ap (λ xs. record { trusted = (cell_of (raw_at b p)).trusted; value = v } ∷ xs) (same_cells b (written b o v) (p + 6) n (λ k m _. after k (omega arith)))
   cells_put p (suc n) (suc i) l e =

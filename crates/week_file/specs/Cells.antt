@@ -2,7 +2,7 @@
 use Rattle.std.specs.Prelude.{ℕ, ◌+◌, ◌/◌, ◌%◌, Bool, true, false, cond, not, ◌&&◌, ◌||◌, List, [], ◌∷◌, ◌++◌, take, drop, is_some, Some, None, Option, ◌==◌}
 use Rattle.std.specs.Option.{unwrap_or}
 use Rattle.values.specs.Bytes.{at, be32}
-use Rattle.values.specs.Kinds.{kind_of, number_of, value_of}
+use Rattle.values.specs.Kinds.{kind_number, number_field, value_of}
 use Rattle.values.specs.declared.kinds.Value.{Value}
 use Rattle.values.specs.declared.kinds.Value.TheVariants.{Nil}
 use Rattle.hosts.specs.Meaning.{Cell}
@@ -54,7 +54,7 @@ filed c = record { trusted = (c.mark == 1); value = unwrap_or (value_in c) Nil }
 
 -- a value in five bytes: its kind, and its number field with the most significant byte first
 abbrev pub five_bytes : Value → List ℕ
-five_bytes v = kind_of v ∷ number_of v / 16777216 ∷ number_of v / 65536 % 256 ∷ number_of v / 256 % 256 ∷ number_of v % 256 ∷ []
+five_bytes v = kind_number v ∷ number_field v / 16777216 ∷ number_field v / 65536 % 256 ∷ number_field v / 256 % 256 ∷ number_field v % 256 ∷ []
 
 -- the bytes with v in the cell that begins at o: its mark stays, and so do all bytes before and after
 abbrev pub written : List ℕ → ℕ → Value → List ℕ

@@ -1,13 +1,13 @@
 -- What a week file answers to a message.
 use Rattle.std.specs.Prelude.{ℕ, Bool, cond, not, ◌&&◌, List, [], ◌∷◌, Some, None, Option, ◌==◌}
-use Rattle.values.specs.Kinds.{kind_of, number_of, truth}
+use Rattle.values.specs.Kinds.{kind_number, number_field, truth}
 use Rattle.values.specs.declared.kinds.Value.{Value}
 use Rattle.values.specs.declared.kinds.Value.TheVariants.{Nil}
 use Rattle.hosts.specs.Meaning.{Sent}
 
 -- two values have one kind and one number
 abbrev pub same_value : Value → Value → Bool
-same_value v w = kind_of v == kind_of w && number_of v == number_of w
+same_value v w = kind_number v == kind_number w && number_field v == number_field w
 
 -- to selector s without arguments: 20 is nil, 21 is not nil, 25 answers nil
 abbrev pub reply_to_none : ℕ → Value → Option Value
