@@ -1,5 +1,5 @@
 -- Cells that are there, numbers that no cell has, and what writes and messages leave of a host.
-use Rattle.std.proofs.Common.{◌≡◌, ℕ, zero, suc, ◌≤◌, Bool, true, false, List, [], ◌∷◌, length, Err, sym, refl, ap, ◌∙◌, subst, le_of_suc-le-suc, not-suc-le-zero}
+use Rattle.std.proofs.Common.{◌≡◌, ℕ, zero, suc, ◌≤◌, true, false, List, [], ◌∷◌, length, Err, sym, refl, ap, ◌∙◌, subst, le_of_suc-le-suc, not-suc-le-zero}
 use Rattle.std.specs.Option.{option_map, ok_or}
 use Rattle.std.proofs.lemmas.Option.{slice_get_past}
 use Rattle.values.specs.Faults.{fault}
@@ -7,7 +7,7 @@ use Rattle.values.specs.declared.kinds.Value.{Value}
 use Rattle.values.specs.declared.faults.Rule.TheVariants.{CellMissing}
 use Rattle.hosts.specs.declared.rows.Row.{Row}
 use Rattle.hosts.specs.declared.rows.Row.TheVariants.{Variables, Bindings}
-use Rattle.hosts.specs.Meaning.{Cell, Meaning, Marks, Kept, Like, OpenOnly, asked, put, cell_value, row_of, with_cell, marks, marks_in, marks_of, marked}
+use Rattle.hosts.specs.Meaning.{Cell, Meaning, Kept, Like, OpenOnly, asked, put, cell_value, row_of, with_cell, marks, marks_in, marks_of, marked}
 
 -- a number at or above the count
 pub asked_past : {X : Type 0} (f : Cell → X) (cs : List Cell) (i : ℕ)
@@ -73,6 +73,11 @@ open_trusted (c ∷ cs) [] i h e = absurd h
 open_trusted (c ∷ cs) (d ∷ ds) zero h e = h.1 e
 open_trusted (c ∷ cs) (d ∷ ds) (suc i) h e = open_trusted cs ds i h.2 e
 
+-- what holds of either row
+pub both_rows : (P : Row → Type 0) → P Variables → P Bindings → (row : Row) → P row
+both_rows P v b Variables = v
+both_rows P v b Bindings = b
+
 -- the marks of a row are those of its cells
 pub row_marks : (m : Meaning) (row : Row) → marks_in (marks_of m) row ≡ marks (row_of m row)
 row_marks m Variables = refl
@@ -92,7 +97,8 @@ kept_same m n e =
 pub kept_trans : {m n o : Meaning} → Kept m n → Kept n o → Kept m o
 kept_trans {m} {n} {o} a b = record {
   receiver = b.receiver ∙ a.receiver;
-  cells = λ row. open_trans (row_of m row) (row_of n row) (row_of o row) (a.cells row) (b.cells row);
+  cells = λ row.
+      open_trans (row_of m row) (row_of n row) (row_of o row) (a.cells row) (b.cells row);
   understands = b.understands ∙ a.understands;
 }
 
@@ -131,22 +137,17 @@ module _ (m : Meaning) (i : ℕ) (v : Value) where
     marks = λ j. record { variables = marks m.variables; bindings = put_marks m.bindings i v j };
   }
 
-  pub write_kept : (row : Row) → marked (marks_in (marks_of m) row) i ≡ false → Kept m (with_cell m row i v)
+  pub write_kept : (row : Row) → marked (marks_in (marks_of m) row) i ≡ false
+      → Kept m (with_cell m row i v)
   write_kept Variables h = record {
     receiver = refl;
-    cells = λ row. cells row;
+    cells = both_rows (λ r. OpenOnly (row_of m r) (row_of (with_cell m Variables i v) r))
+        (put_open m.variables i v h) (open_same m.bindings);
     understands = refl;
   }
-    where
-      cells : (row : Row) → OpenOnly (row_of m row) (row_of (with_cell m Variables i v) row)
-      cells Variables = put_open m.variables i v h
-      cells Bindings = open_same m.bindings
   write_kept Bindings h = record {
     receiver = refl;
-    cells = λ row. cells row;
+    cells = both_rows (λ r. OpenOnly (row_of m r) (row_of (with_cell m Bindings i v) r))
+        (open_same m.variables) (put_open m.bindings i v h);
     understands = refl;
   }
-    where
-      cells : (row : Row) → OpenOnly (row_of m row) (row_of (with_cell m Bindings i v) row)
-      cells Variables = open_same m.variables
-      cells Bindings = put_open m.bindings i v h

@@ -72,7 +72,8 @@ with_cell m Bindings i v = record m { bindings = put m.bindings i v }
 -- as many cells with the same marks, and the same values in the trusted ones
 abbrev pub OpenOnly : List Cell → List Cell → Type 0
 OpenOnly [] [] = Unit {0}
-OpenOnly (c ∷ cs) (d ∷ ds) = (d.trusted ≡ c.trusted) × (c.trusted ≡ true → d.value ≡ c.value) × OpenOnly cs ds
+OpenOnly (c ∷ cs) (d ∷ ds) =
+    (d.trusted ≡ c.trusted) × (c.trusted ≡ true → d.value ≡ c.value) × OpenOnly cs ds
 OpenOnly _ _ = ⊥
 
 -- what no message alters: all but the values of open cells

@@ -10,7 +10,8 @@ use crate::messages::Message;
 use crate::rows::Row;
 use values::{Fault, Value};
 
-/// What a parcel is checked over and runs on: a receiver, two rows of cells, and answers to messages.
+/// What a parcel is checked over and runs on: a receiver, two rows of cells, and answers to
+/// messages.
 pub trait Host {
     // The receiver, the cells and the yes or no to every message.
     ghost means: { Self → Meaning };
@@ -26,7 +27,8 @@ pub trait Host {
     fn count(&self, row: Row) -> usize
         ensures { result ≡ length (row_of (means self.now) row) };
 
-    /// Whether cell i of a row is trusted. A number at or above the count is fault 29 at that number.
+    /// Whether cell i of a row is trusted. A number at or above the count is fault 29 at that
+    /// number.
     fn trusted(&self, row: Row, i: usize) -> Result<bool, Fault>
         ensures { result ≡ mark_of (row_of (means self.now) row) i };
 
@@ -40,7 +42,8 @@ pub trait Host {
         ensures answer { result ≡ place_of (row_of (means self.old) row) i }
         ensures after { means self.new ≡ with_cell (means self.old) row i v };
 
-    /// Sends m once. None says that it is not understood; nothing is altered then.
+    /// Sends m once, and answers what comes of it. None says that m is not understood, and that
+    /// nothing is altered.
     fn send(&mut self, m: &Message) -> Option<Value>
         ensures { Answered means may self.old (sent m.now) result self.new };
 

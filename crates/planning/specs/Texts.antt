@@ -1,6 +1,6 @@
 -- What is printed, in bytes.
 use Rattle.std.specs.Prelude.{ℕ, Bool, cond, List, ◌++◌, Ok, Err, Result, codes, decimal}
-use Rattle.values.specs.Faults.{found}
+use Rattle.values.specs.Faults.{fault_text}
 use Rattle.values.specs.Kinds.{value_text}
 use Rattle.values.specs.declared.faults.Fault.{Fault}
 use Rattle.hosts.specs.declared.rows.Row.{Row}
@@ -43,7 +43,7 @@ ran_text r = state_text r.state r.place r.steps
 -- how it ran, or why it was not opened
 abbrev pub ran_or_refused : Result Ran Fault → List ℕ
 ran_or_refused (Ok r) = ran_text r
-ran_or_refused (Err f) = found f
+ran_or_refused (Err f) = fault_text f
 
 -- what came of an accepted parcel
 abbrev pub outcome_text : Outcome → List ℕ

@@ -2,7 +2,7 @@
 use Rattle.std.proofs.Common.{◌≡◌, ℕ, ◌%◌, ◌<◌, ◌≢◌, Bool, true, false, List, length, get_or, sym, refl, ap, ◌∙◌, subst, inl, inr, true≢false, arith}
 use Rattle.std.proofs.lemmas.Bool.{cases_lt, cases_order}
 use Rattle.values.specs.Order.{Test}
-use Rattle.values.specs.Faults.{fault, stage_of}
+use Rattle.values.specs.Faults.{fault, rule_stage}
 use Rattle.values.specs.declared.faults.Fault.{Fault}
 use Rattle.values.specs.declared.faults.Stage.TheVariants.{Heights}
 use Rattle.hosts.specs.Meaning.{Marks}
@@ -60,7 +60,7 @@ module _ (x : Context) (p : ℕ) where
       first_one y (subst (λ (d : Bool). First (site_tests x (site p d i) (operation_of i.opcode)) g) (sym (same_word b c to from to' from')) at_i)
 
 -- a broken height rule is a fault of the heights stage
-in_heights : {code : List ℕ} {limit : ℕ} {f : Fault} → ViolatesHeights code limit f → stage_of f.rule ≡ Heights
+in_heights : {code : List ℕ} {limit : ℕ} {f : Fault} → ViolatesHeights code limit f → rule_stage f.rule ≡ Heights
 in_heights (low path t h) = refl
 in_heights (over path t h) = refl
 in_heights (leaves path t e) = refl
@@ -149,7 +149,7 @@ module _ (m : Marks) (t : Bool) (b : List ℕ) (h w : ℕ) where
             one_instruction (on_path kh' kf' kl' long' ke y) = absurd (met (context (parcel b) m t) p x (ke.each p starts))
 
   -- of two first faults of which one is found before the heights, both are the same
-  pub one_first : {f g : Fault} → FirstFault m t b h w f → stage_of f.rule ≢ Heights → FirstFault m t b h w g → f ≡ g
+  pub one_first : {f g : Fault} → FirstFault m t b h w f → rule_stage f.rule ≢ Heights → FirstFault m t b h w g → f ≡ g
   one_first (at_header x) ne y = one_header x y
   one_first (at_flags kh x) ne y = one_flags kh x y
   one_first (at_literal kh kf k l before x) ne y = one_literal kh kf k l before x y

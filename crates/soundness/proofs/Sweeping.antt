@@ -1,7 +1,8 @@
 -- The encoding stage visits the places where instructions start, in order, and finds the first broken rule.
 use Rattle.std.proofs.Common.{◌≡◌, ℕ, zero, suc, ◌+◌, ◌*◌, ◌%◌, ◌<◌, ◌≤◌, Bool, true, false, cond, leb, ◌⊎◌, List, length, Some, None, Ok, Err, Option, sym, refl, subst, inl, inr, arith}
 use Rattle.std.proofs.lemmas.Bool.{leb-true, leb-false, cases_lt, cases_order}
-use Rattle.values.specs.Order.{first, or_else}
+use Rattle.std.specs.Option.{option_or}
+use Rattle.values.specs.Order.{first}
 use Rattle.values.specs.declared.faults.Fault.{Fault}
 use Rattle.parcels.specs.Opcodes.{operation_of}
 use Rattle.parcels.specs.Reading.{Reading, read_at, starts_at}
@@ -68,7 +69,7 @@ module _ (x : Context) where
     where
       tested : (i : Instruction) (rest : List ℕ) → read_at x.parts.code p ≡ Ok (i, rest) → starts_at x.parts.code p ≡ true
           → Found x (p + 2 * i.pairs) (swept x n (pushes_block x.parts.literals i) (p + 2 * i.pairs))
-          → (o : Option Fault) → first (site_tests x (site p b i) (operation_of i.opcode)) ≡ o → Found x p (or_else o (swept x n (pushes_block x.parts.literals i) (p + 2 * i.pairs)))
+          → (o : Option Fault) → first (site_tests x (site p b i) (operation_of i.opcode)) ≡ o → Found x p (option_or o (swept x n (pushes_block x.parts.literals i) (p + 2 * i.pairs)))
       tested i rest read starts further (Some f) e = stops p (omega arith) starts (λ r l g t. absurd (omega arith)) (breaks i rest b f read to from (first_some _ f e))
       tested i rest read starts further None e = onward p starts i rest read (rules_kept x p b i rest read to (first_none _ e)) further
 

@@ -1,7 +1,8 @@
 -- Every verdict has its meaning.
 use Rattle.std.proofs.Common.{◌≡◌, ℕ, zero, suc, ◌+◌, ◌%◌, ◌<◌, ◌≤◌, Bool, false, List, [], length, drop, replicate, Some, None, Ok, Err, Option, Result, sym, refl, ap, ◌∙◌, subst, inl, inr, arith}
 use Rattle.std.proofs.lemmas.Bool.{cases_eq, cases_lt}
-use Rattle.values.specs.Order.{first, or_else, first_from, unless, and_then}
+use Rattle.std.specs.Option.{option_or}
+use Rattle.values.specs.Order.{first, first_from, unless, and_then}
 use Rattle.values.specs.declared.faults.Fault.{Fault}
 use Rattle.hosts.specs.Meaning.{Marks}
 use Rattle.parcels.specs.declared.layout.Kind.{Kind}
@@ -40,7 +41,7 @@ literals_are ls bindings i (suc n) = by (first (literal_tests ls bindings i)) re
         wrong_at m (omega arith) (omega arith) (λ j a b. elim (cases_eq j i) [ inl e ↦ subst (λ (x : ℕ). ValidLiteral ls bindings x) (sym e) k | inr ne ↦ f j (next j a ne) b ]) g
 
     by : (o : Option Fault) → first (literal_tests ls bindings i) ≡ o → LiteralsAre ls bindings (i + 1) n (first_from (wrong ls bindings) (i + 1) n)
-        → LiteralsAre ls bindings i (suc n) (or_else o (first_from (wrong ls bindings) (i + 1) n))
+        → LiteralsAre ls bindings i (suc n) (option_or o (first_from (wrong ls bindings) (i + 1) n))
     by (Some f) e r = wrong_at i (omega arith) (omega arith) (λ j l h. absurd (omega arith)) (first_some (literal_tests ls bindings i) f e)
     by None e r = further (literal_kept ls bindings i (first_none (literal_tests ls bindings i) e)) r
 
@@ -56,7 +57,7 @@ module _ (m : Marks) (b : List ℕ) (h w : ℕ) where
   in_lists kh kf kl None e = let l = lists_kept (pairs (parcel b).code) h w (first_none (list_tests (pairs (parcel b).code) h w) e) in goes_in kh kf kl (record { heights = l.0; waiting = l.1 })
 
   in_literals : ValidHeader b → ValidFlags (header b) → {o : Option Fault} → LiteralsAre (parcel b).literals (length m.bindings) 0 (parcel b).layout.literal_count o
-      → Admission m b h w (unless (or_else o (first (list_tests (pairs (parcel b).code) h w))) (parcel b))
+      → Admission m b h w (unless (option_or o (first (list_tests (pairs (parcel b).code) h w))) (parcel b))
   in_literals kh kf (all f) = in_lists kh kf (λ k l. f k (omega arith) (omega arith)) (first (list_tests (pairs (parcel b).code) h w)) refl
   in_literals kh kf (wrong_at k l g f first) = stays_out (λ t. at_literal kh kf k (omega arith) (λ j a. f j (omega arith) a) first)
 
@@ -103,7 +104,7 @@ module _ (m : Marks) (t : Bool) (b : List ℕ) (h w : ℕ) (kh : ValidHeader b) 
   in_code pos even (stops q l s f meets) = refused (at_instruction kh kf kl long pos even q s (λ r g. f r (omega arith) g) meets)
 
   in_length : (o : Option Fault) → first (length_tests (length (parcel b).code)) ≡ o
-      → Judgement m t b h w (and_then (unless (or_else o (swept (context (parcel b) m t) (length (parcel b).code) false 0)) (parcel b)) (λ p. examined p.code (limit_of p.layout) (replicate (pairs p.code) 255)))
+      → Judgement m t b h w (and_then (unless (option_or o (swept (context (parcel b) m t) (length (parcel b).code) false 0)) (parcel b)) (λ p. examined p.code (limit_of p.layout) (replicate (pairs p.code) 255)))
   in_length (Some f) e = refused (at_length kh kf kl long (first_some (length_tests (length (parcel b).code)) f e))
   in_length None e = let k = length_kept (length (parcel b).code) (first_none (length_tests (length (parcel b).code)) e) in in_code k.0 k.1 (sweep_finds (context (parcel b) m t) k.0)
 

@@ -1,6 +1,6 @@
 -- What a verdict means.
 use Rattle.std.specs.Prelude.{◌≡◌, ℕ, ◌*◌, ◌%◌, ◌<◌, ◌≤◌, Bool, true, List, length, Ok, Err, ◌≢◌, slice_index}
-use Rattle.values.specs.Faults.{stage_of}
+use Rattle.values.specs.Faults.{rule_stage}
 use Rattle.values.specs.declared.faults.Fault.{Fault}
 use Rattle.values.specs.declared.faults.Stage.TheVariants.{Heights}
 use Rattle.hosts.specs.Meaning.{Marks, Meaning, marks_of}
@@ -73,7 +73,7 @@ pub record VerdictMeans (m : Marks) (t : Bool) (b : List ℕ) (h w : ℕ) (c : C
   pub heights : (top : ℕ) → c.verdict ≡ Ok top → HeightsOfPaths (parcel b).code c.heights top
   pub no_others : (top : ℕ) → c.verdict ≡ Ok top → OnlyHeights (parcel b).code c.heights top
   pub refused : (f : Fault) → c.verdict ≡ Err f → FirstFault m t b h w f
-  pub one_first : (f : Fault) → FirstFault m t b h w f → stage_of f.rule ≢ Heights → c.verdict ≡ Err f
+  pub one_first : (f : Fault) → FirstFault m t b h w f → rule_stage f.rule ≢ Heights → c.verdict ≡ Err f
 
 -- every verdict has its meaning
 abbrev pub EveryVerdictMeans : Type 0

@@ -2,8 +2,9 @@
 use Rattle.std.proofs.Common.{◌≡◌, ℕ, zero, suc, ◌+◌, ◌*◌, ◌<◌, ◌≤◌, Bool, false, leb, List, length, Some, None, Ok, Err, Option, Result, sym, refl, ap, ◌∙◌, arith}
 use Rattle.std.proofs.lemmas.Bool.{cond-true, cond-false, le-leb, lt-leb}
 use Rattle.std.specs.Result.{MatchResult}
+use Rattle.std.specs.Option.{option_or}
 use Rattle.values.specs.Faults.{fault}
-use Rattle.values.specs.Order.{or_else, unless, and_then}
+use Rattle.values.specs.Order.{unless, and_then}
 use Rattle.values.specs.declared.faults.Fault.{Fault}
 use Rattle.parcels.specs.Reading.{Reading, read_at, unreadable_rule}
 use Rattle.parcels.specs.declared.reading.Instruction.{Instruction}
@@ -54,7 +55,7 @@ turn x b p r s h e = by s.fuel s.enough s.same
     }
 
 -- an answer for the first, and then for the second
-in_turn : (o p : Option Fault) → and_then (unless o (tt {0})) (λ _. unless p (tt {0})) ≡ unless (or_else o p) (tt {0})
+in_turn : (o p : Option Fault) → and_then (unless o (tt {0})) (λ _. unless p (tt {0})) ≡ unless (option_or o p) (tt {0})
 in_turn (Some f) p = refl
 in_turn None p = refl
 

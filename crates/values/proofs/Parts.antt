@@ -4,7 +4,7 @@ use Rattle.std.specs.Option.{option_map}
 use Rattle.std.proofs.lemmas.Int.{ints, of_z-to_z, to_z-of_z}
 use Rattle.values.specs.Kinds.{ReadBack}
 use Rattle.values.specs.declared.small.SmallInteger.{SmallInteger}
-use Rattle.values.specs.declared.kinds.Value.TheVariants.{Nil, True, False, Integer, Object, Block, Closure}
+use Rattle.values.specs.declared.kinds.Value.TheVariants.{Integer}
 use Rattle.values.proofs.Smalls.{small_is}
 
 -- a number field as a signed number, and back
@@ -16,11 +16,8 @@ pub small_fits : (s : SmallInteger) → SFits w32 s.value
 small_fits s = omega (arith, ints, s.low, s.high)
 
 pub read_back : ReadBack
-read_back Nil = refl
-read_back True = refl
-read_back False = refl
 read_back (Integer s) =
-    ap (option_map Integer) (small_is s (to_z w32 (of_z w32 s.value)) (sym (to_z-of_z w32 s.value (small_fits s))))
-read_back (Object n) = refl
-read_back (Block n) = refl
-read_back (Closure n) = refl
+    let z = s.value in
+    let same : z ≡ to_z w32 (of_z w32 z) = sym (to_z-of_z w32 z (small_fits s)) in
+    ap (option_map Integer) (small_is s (to_z w32 (of_z w32 z)) same)
+read_back _ = refl

@@ -7,81 +7,74 @@ use Rattle.values.specs.declared.faults.Stage.TheVariants.{Header, Flags, Litera
 use Rattle.values.specs.declared.faults.Fault.{Fault}
 
 -- the number that a person reads
-abbrev pub number_of : Rule → ℕ
-number_of HeaderShort = 1
-number_of KindUnknown = 2
-number_of LiteralsTooMany = 3
-number_of CodeTooLong = 3
-number_of LengthWrong = 4
-number_of FlagsReserved = 6
-number_of LocalsOverSlots = 7
-number_of LiteralWrong = 9
-number_of BindingMissing = 10
-number_of ListShort = 11
-number_of CodeCut = 12
-number_of ExtensionFourth = 13
-number_of OpcodeUnknown = 14
-number_of OperandWrong = 15
-number_of CleanBlock = 16
-number_of StoreTrusted = 17
-number_of ReturnForeign = 18
-number_of LandingWrong = 19
-number_of ClosureAlone = 20
-number_of HeightLow = 21
-number_of HeightOver = 22
-number_of FallsOffEnd = 23
-number_of HeightsDiffer = 24
-number_of ArgumentsDiffer = 25
-number_of FrameShort = 26
-number_of RunNotLive = 27
-number_of CountsDiffer = 28
-number_of StepFrameShort = 26
-number_of CellMissing = 29
-number_of FileShort = 30
-number_of CellsTooMany = 31
-number_of FileLength = 32
-number_of CellWrong = 34
+abbrev pub rule_number : Rule → ℕ
+rule_number HeaderShort = 1
+rule_number KindUnknown = 2
+rule_number LiteralsTooMany = 3
+rule_number CodeTooLong = 3
+rule_number LengthWrong = 4
+rule_number FlagsReserved = 6
+rule_number LocalsOverSlots = 7
+rule_number LiteralWrong = 9
+rule_number BindingMissing = 10
+rule_number ListShort = 11
+rule_number CodeCut = 12
+rule_number ExtensionFourth = 13
+rule_number OpcodeUnknown = 14
+rule_number OperandWrong = 15
+rule_number CleanBlock = 16
+rule_number StoreTrusted = 17
+rule_number ReturnForeign = 18
+rule_number LandingWrong = 19
+rule_number ClosureAlone = 20
+rule_number HeightLow = 21
+rule_number HeightOver = 22
+rule_number FallsOffEnd = 23
+rule_number HeightsDiffer = 24
+rule_number ArgumentsDiffer = 25
+rule_number FrameShort = 26
+rule_number RunNotLive = 27
+rule_number CountsDiffer = 28
+rule_number StepFrameShort = 26
+rule_number CellMissing = 29
+rule_number FileShort = 30
+rule_number CellsTooMany = 31
+rule_number FileLength = 32
+rule_number CellWrong = 34
 
--- when it is found
-abbrev pub stage_of : Rule → Stage
-stage_of HeaderShort = Header
-stage_of KindUnknown = Header
-stage_of LiteralsTooMany = Header
-stage_of CodeTooLong = Header
-stage_of LengthWrong = Header
-stage_of FlagsReserved = Flags
-stage_of LocalsOverSlots = Flags
-stage_of LiteralWrong = Literals
-stage_of BindingMissing = Literals
-stage_of ListShort = Lists
-stage_of CodeCut = Encoding
-stage_of ExtensionFourth = Encoding
-stage_of OpcodeUnknown = Encoding
-stage_of OperandWrong = Encoding
-stage_of CleanBlock = Encoding
-stage_of StoreTrusted = Encoding
-stage_of ReturnForeign = Encoding
-stage_of LandingWrong = Encoding
-stage_of ClosureAlone = Encoding
-stage_of HeightLow = Heights
-stage_of HeightOver = Heights
-stage_of FallsOffEnd = Heights
-stage_of HeightsDiffer = Heights
-stage_of ArgumentsDiffer = Opening
-stage_of FrameShort = Opening
-stage_of RunNotLive = Step
-stage_of CountsDiffer = Step
-stage_of StepFrameShort = Step
-stage_of CellMissing = Host
-stage_of FileShort = WeekFile
-stage_of CellsTooMany = WeekFile
-stage_of FileLength = WeekFile
-stage_of CellWrong = WeekFile
+-- when it is found: every rule that is not named here is one of the encoding
+abbrev pub rule_stage : Rule → Stage
+rule_stage HeaderShort = Header
+rule_stage KindUnknown = Header
+rule_stage LiteralsTooMany = Header
+rule_stage CodeTooLong = Header
+rule_stage LengthWrong = Header
+rule_stage FlagsReserved = Flags
+rule_stage LocalsOverSlots = Flags
+rule_stage LiteralWrong = Literals
+rule_stage BindingMissing = Literals
+rule_stage ListShort = Lists
+rule_stage HeightLow = Heights
+rule_stage HeightOver = Heights
+rule_stage FallsOffEnd = Heights
+rule_stage HeightsDiffer = Heights
+rule_stage ArgumentsDiffer = Opening
+rule_stage FrameShort = Opening
+rule_stage RunNotLive = Step
+rule_stage CountsDiffer = Step
+rule_stage StepFrameShort = Step
+rule_stage CellMissing = Host
+rule_stage FileShort = WeekFile
+rule_stage CellsTooMany = WeekFile
+rule_stage FileLength = WeekFile
+rule_stage CellWrong = WeekFile
+rule_stage _ = Encoding
 
 -- a rule broken at a place
 abbrev pub fault : Rule → ℕ → Fault
 fault r p = record { rule = r; place = p }
 
 -- a fault for a person: that it refuses, its number, and where it was found
-abbrev pub found : Fault → List ℕ
-found f = codes "refused " ++ (decimal (number_of f.rule) ++ (codes " at " ++ decimal f.place))
+abbrev pub fault_text : Fault → List ℕ
+fault_text f =
+    codes "refused " ++ (decimal (rule_number f.rule) ++ (codes " at " ++ decimal f.place))

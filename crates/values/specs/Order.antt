@@ -1,5 +1,6 @@
 -- Tests in a fixed order: the first that applies is answered.
-use Rattle.std.specs.Prelude.{ℕ, zero, suc, ◌+◌, Bool, cond, List, [], ◌∷◌, Some, None, Ok, Err, Option, Result}
+use Rattle.std.specs.Prelude.{ℕ, zero, suc, ◌+◌, Bool, if◌then◌else◌, List, [], ◌∷◌, Some, None, Ok, Err, Option, Result}
+use Rattle.std.specs.Option.{option_or}
 use Rattle.values.specs.declared.faults.Rule.{Rule}
 use Rattle.values.specs.declared.faults.Fault.{Fault}
 use Rattle.values.specs.Faults.{fault}
@@ -16,17 +17,12 @@ test r p b = record { finds = fault r p; applies = b }
 -- the first fault that applies, if any does
 abbrev pub first : List Test → Option Fault
 first [] = None
-first (t ∷ ts) = cond t.applies (Some t.finds) (first ts)
-
--- the first of two, in order
-abbrev pub or_else : Option Fault → Option Fault → Option Fault
-or_else (Some f) g = Some f
-or_else None g = g
+first (t ∷ ts) = if t.applies then Some t.finds else first ts
 
 -- the first fault that p finds at one of the n numbers from i on
 abbrev pub first_from : (ℕ → Option Fault) → ℕ → ℕ → Option Fault
 first_from p i zero = None
-first_from p i (suc n) = or_else (p i) (first_from p (i + 1) n)
+first_from p i (suc n) = option_or (p i) (first_from p (i + 1) n)
 
 -- x, unless there is a fault
 abbrev pub unless : {X : Type 0} → Option Fault → X → Result X Fault

@@ -1,5 +1,5 @@
--- The small integers themselves: the one that has the low 31 bits of a number, and when two are the same.
-use Rattle.std.specs.Prelude.{◌≡◌, Bool, true, false, T, ℤ, pos, negsuc, ◌≤ℤ◌, ◌<ℤ◌, Some, None, Option, nat_lt, refl}
+-- The small integers themselves: which numbers are one, and when two are the same.
+use Rattle.std.specs.Prelude.{◌≡◌, ◌-◌, ◌^◌, Bool, true, false, T, ℤ, pos, negsuc, ◌≤ℤ◌, ◌<ℤ◌, Some, None, Option, nat_lt, refl}
 use Rattle.std.proofs.Common.{ap, le_of_suc-le-suc as le-of-lt-suc, le→leb, ltb→lt}
 use Rattle.std.proofs.Math.Path.{subst⁻¹}
 use mathlib.Core.HLevel.{Σ_prop_path}
@@ -21,16 +21,17 @@ same_small x y p =
 
 -- from -2 ^ 30 to 2 ^ 30 - 1
 abbrev pub in_range : ℤ → Bool
-in_range (pos n) = nat_lt n 1073741824
-in_range (negsuc n) = nat_lt n 1073741824
+in_range (pos n) = nat_lt n (2 ^ 30)
+in_range (negsuc n) = nat_lt n (2 ^ 30)
 
 -- what is in range is not below the least
-pub range_low : (z : ℤ) → in_range z ≡ true → negsuc 1073741823 ≤ℤ z
+pub range_low : (z : ℤ) → in_range z ≡ true → negsuc (2 ^ 30 - 1) ≤ℤ z
 range_low (pos n) e = record { le = tt }
-range_low (negsuc n) e = record { le = le→leb n 1073741823 (le-of-lt-suc (ltb→lt n 1073741824 (subst⁻¹ T e tt))) }
+range_low (negsuc n) e =
+    record { le = le→leb n (2 ^ 30 - 1) (le-of-lt-suc (ltb→lt n (2 ^ 30) (subst⁻¹ T e tt))) }
 
 -- what is in range is not above the greatest
-pub range_high : (z : ℤ) → in_range z ≡ true → z <ℤ pos 1073741824
+pub range_high : (z : ℤ) → in_range z ≡ true → z <ℤ pos (2 ^ 30)
 range_high (pos n) e = record { lt = subst⁻¹ T e tt }
 range_high (negsuc n) e = record { lt = tt }
 

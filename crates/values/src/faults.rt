@@ -1,63 +1,108 @@
 // A fault: which rule was broken, and where.
 ghost use Rattle.std.specs.Prelude.{◌≡◌, Some};
-ghost use Rattle.values.specs.Faults.{number_of, stage_of, fault, found};
+ghost use Rattle.values.specs.Faults.{rule_number, rule_stage, fault, fault_text};
 
 use std::fmt;
 
-// When a fault is found.
+/// When a fault is found: one of the six stages of a check, in their order, or one of what comes
+/// beside a check.
 #[derive(Clone, Copy, PartialEq, Eq, Debug)]
 pub enum Stage {
+    /// The header of a parcel.
     Header,
+    /// The flags of a parcel.
     Flags,
+    /// The literals of a parcel.
     Literals,
+    /// The lists that a check is lent.
     Lists,
+    /// The instructions of a parcel, each by itself.
     Encoding,
+    /// The heights along the paths through the code.
     Heights,
+    /// Opening a run of a parcel that is accepted.
     Opening,
+    /// A step of a run.
     Step,
+    /// A call of a host.
     Host,
+    /// Opening a week file.
     WeekFile,
 }
 
-// A rule that can be broken, one for each row of the table of faults.
+/// A rule that can be broken, one for each row of the table of faults.
 #[derive(Clone, Copy, PartialEq, Eq, Debug)]
 pub enum Rule {
+    /// A parcel has at least the bytes of a header.
     HeaderShort,
+    /// The kind of a parcel is a method or a block.
     KindUnknown,
+    /// A parcel has at most 1,024 literals.
     LiteralsTooMany,
+    /// The code of a parcel has at most 4,096 bytes.
     CodeTooLong,
+    /// A parcel ends exactly with its code.
     LengthWrong,
+    /// Every reserved bit of the flags is 0.
     FlagsReserved,
+    /// There are no more locals than slots.
     LocalsOverSlots,
+    /// Detail, kind and number of a literal go together.
     LiteralWrong,
+    /// A binding that a literal names is one of the host's.
     BindingMissing,
+    /// Each list of a check has an entry for every pair of bytes of the code.
     ListShort,
+    /// The code is not empty, and ends with an instruction.
     CodeCut,
+    /// An instruction has at most three extension pairs.
     ExtensionFourth,
+    /// An opcode stands in the table of opcodes.
     OpcodeUnknown,
+    /// The operand of an instruction keeps the rule of its opcode.
     OperandWrong,
+    /// A clean block does not ask for the receiver.
     CleanBlock,
+    /// An untrusted parcel stores into open cells alone.
     StoreTrusted,
+    /// Only a block with the whole chain returns from the method around it.
     ReturnForeign,
+    /// A jump lands at the start of an instruction.
     LandingWrong,
+    /// A closure is made of the block that was pushed directly before.
     ClosureAlone,
+    /// An instruction finds as much on the stack as it needs.
     HeightLow,
+    /// An instruction leaves the stack within the limit.
     HeightOver,
+    /// An instruction that can go on has another one after it.
     FallsOffEnd,
+    /// A place is reached at one height on every path.
     HeightsDiffer,
+    /// A run is opened with as many arguments as its parcel takes.
     ArgumentsDiffer,
+    /// The frame at opening has a cell for each argument and each slot.
     FrameShort,
+    /// A step is made of a run that has neither ended nor stopped.
     RunNotLive,
+    /// The host of a step has as many cells as the host had at opening.
     CountsDiffer,
+    /// The frame at a step has a cell for each argument and each slot.
     StepFrameShort,
+    /// A cell that is asked for is there.
     CellMissing,
+    /// A week file has at least the bytes of a header.
     FileShort,
+    /// A week file has at most as many cells in a row as a host may have.
     CellsTooMany,
+    /// A week file ends exactly with its last cell.
     FileLength,
+    /// The mark, the kind and the number of a cell of a week file go together.
     CellWrong,
 }
 
-// A broken rule and the place where it was found.
+/// A broken rule, and the place where that was found: a place of the code or of the bytes, or the
+/// number of a literal or a cell.
 #[derive(Clone, Copy, PartialEq, Eq, Debug)]
 pub struct Fault {
     pub rule: Rule,
@@ -65,7 +110,7 @@ pub struct Fault {
 }
 
 impl Rule {
-    // The fault of this rule, broken at a place.
+    /// The fault of this rule, broken at a place.
     pub fn at(self, place: usize) -> Fault
         ensures { result ≡ fault self place }
     {
@@ -74,9 +119,9 @@ impl Rule {
 }
 
 impl fmt::Display for Fault {
-    ghost output = { λ f. Some (found f) };
+    ghost output = { λ f. Some (fault_text f) };
 
-    // Its number and where it was found, as a refusal.
+    /// `refused`, its number, and where it was found.
     fn fmt<W: fmt::Write>(&self, f: &mut fmt::Formatter<W>) -> fmt::Result {
         let number = self.number();
         let place = self.place;
@@ -85,9 +130,9 @@ impl fmt::Display for Fault {
 }
 
 impl Fault {
-    // The number of its rule.
+    /// The number of its rule, as the table of faults has it: two rules may share one.
     pub fn number(self) -> u8
-        ensures { result ≡ number_of self.rule }
+        ensures { result ≡ rule_number self.rule }
     {
         match self.rule {
             Rule::HeaderShort => 1,
@@ -126,16 +171,16 @@ impl Fault {
         }
     }
 
-    // Where it was found.
+    /// Where it was found.
     pub fn place(self) -> usize
         ensures { result ≡ self.place }
     {
         self.place
     }
 
-    // The stage of its rule.
+    /// The stage at which its rule is looked at.
     pub fn stage(self) -> Stage
-        ensures { result ≡ stage_of self.rule }
+        ensures { result ≡ rule_stage self.rule }
     {
         match self.rule {
             Rule::HeaderShort

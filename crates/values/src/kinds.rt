@@ -1,28 +1,31 @@
 // What a cell may hold.
 ghost use Rattle.std.specs.Prelude.{◌≡◌, Some};
 ghost use Rattle.std.specs.Option.{ok_or};
-ghost use Rattle.values.specs.Kinds.{kind_of, number_of, plain_of, integer, value_of, truth, value_text, ReadBack};
+ghost use Rattle.values.specs.Kinds.{kind_number, number_field, plain_of, integer, value_of, truth, value_text, ReadBack};
 
 use crate::small::SmallInteger;
 use crate::unknown::Unknown;
 use std::fmt;
 
-// A value of one of the seven kinds.
+/// A value of one of the seven kinds.
 #[derive(Clone, Copy, PartialEq, Eq, Debug)]
 pub enum Value {
     Nil,
     True,
     False,
     Integer(SmallInteger),
+    /// An object, by its number in the world of the host.
     Object(u32),
+    /// A block, by its number.
     Block(u32),
+    /// A closure of the block with this number.
     Closure(u32),
 }
 
 impl Value {
-    // The number of its kind, 0 to 6, as the formats write it. An enum of the kinds would be this one again, without what a value holds.
+    /// The number of its kind, 0 to 6, as parcels and week files write it.
     pub fn kind(self) -> u8
-        ensures { result ≡ kind_of self }
+        ensures { result ≡ kind_number self }
     {
         match self {
             Value::Nil => 0,
@@ -35,9 +38,10 @@ impl Value {
         }
     }
 
-    // What the four-byte number field beside the kind holds.
+    /// What the four-byte number field beside the kind holds: 0, an integer in two's complement, or
+    /// the number of an object, a block or a closure.
     pub fn number(self) -> u32
-        ensures { result ≡ number_of self }
+        ensures { result ≡ number_field self }
     {
         match self {
             Value::Integer(s) => i32::from(s).cast_unsigned(),
@@ -46,7 +50,8 @@ impl Value {
         }
     }
 
-    // The value of a kind and a number field, if the two keep the rules.
+    /// The value of a kind and a number field. None where the kind is above 6, where the field
+    /// beside nil, true or false is not 0, and where that of an integer is no small integer.
     pub fn from_parts(kind: u8, number: u32) -> Option<Value>
         ensures made { result ≡ value_of kind number }
         ensures back { ReadBack }
@@ -83,7 +88,7 @@ impl TryFrom<i64> for Value {
 
     ghost try_from_gives = { λ n r. r ≡ ok_or (integer n) (record { 0 = n }) };
 
-    // The small integer that n is, as a value.
+    /// The small integer that n is, as a value. Any other n comes back in the error.
     fn try_from(n: i64) -> Result<Value, Unknown<i64>> {
         Ok(Value::Integer(SmallInteger::try_from(n)?))
     }
@@ -92,7 +97,7 @@ impl TryFrom<i64> for Value {
 impl From<bool> for Value {
     ghost from_gives = { λ b v. v ≡ truth b };
 
-    // True or false, as a value.
+    /// True or false, as a value.
     fn from(b: bool) -> Value {
         if b { Value::True } else { Value::False }
     }
@@ -101,7 +106,7 @@ impl From<bool> for Value {
 impl fmt::Display for Value {
     ghost output = { λ v. Some (value_text v) };
 
-    // Its kind, and the number that it holds.
+    /// Its kind, and the number that it holds.
     fn fmt<W: fmt::Write>(&self, f: &mut fmt::Formatter<W>) -> fmt::Result {
         match *self {
             Value::Nil => write!(f, "nil"),

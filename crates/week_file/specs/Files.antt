@@ -1,6 +1,5 @@
 -- What a whole week file means.
-use Rattle.std.specs.Prelude.{◌≡◌, ℕ, zero, suc, ◌+◌, ◌*◌, ◌<◌, Bool, true, cond, not, List, [], ◌∷◌, length, is_some, Some, None, Ok, Err, Option, Result, ◌==◌, nat_lt}
-use Rattle.values.specs.Bytes.{be16, be32}
+use Rattle.std.specs.Prelude.{◌≡◌, ℕ, zero, suc, ◌+◌, ◌*◌, ◌<◌, Bool, true, not, List, [], ◌∷◌, length, is_some, Some, None, Ok, Err, Option, Result, ◌==◌, nat_lt, if◌then◌else◌}
 use Rattle.values.specs.Faults.{fault}
 use Rattle.values.specs.Order.{Test, test, first}
 use Rattle.values.specs.declared.faults.Fault.{Fault}
@@ -8,57 +7,67 @@ use Rattle.values.specs.declared.faults.Rule.TheVariants.{CellMissing, FileShort
 use Rattle.values.specs.declared.kinds.Value.{Value}
 use Rattle.values.specs.declared.kinds.Value.TheVariants.{Nil, Object}
 use Rattle.hosts.specs.Meaning.{Cell, Sent, Meaning}
-use Rattle.week_file.specs.Cells.{raw_at, keeps_rules, cell_of, written}
-use Rattle.week_file.specs.Headers.{header_of}
+use Rattle.hosts.specs.declared.rows.Row.{Row}
+use Rattle.hosts.specs.declared.rows.Row.TheVariants.{Variables, Bindings}
+use Rattle.hosts.specs.declared.rows.TheConstants.{MAX_CELLS}
+use Rattle.week_file.specs.Cells.{raw_at, keeps_rules, cell_of}
+use Rattle.week_file.specs.Headers.{file_header, header_count, header_start, cell_start, cell_count}
 use Rattle.week_file.specs.Replies.{replies}
-use Rattle.week_file.specs.declared.headers.Header.{Header}
+use Rattle.week_file.specs.declared.cells.TheConstants.{CELL_BYTES}
+use Rattle.week_file.specs.declared.headers.FileHeader.{FileHeader}
+use Rattle.week_file.specs.declared.headers.TheConstants.{HEADER_BYTES}
 
 -- a test for each of n cells from o on
 abbrev pub cell_tests : List ℕ → ℕ → ℕ → List Test
 cell_tests b o zero = []
-cell_tests b o (suc n) = test CellWrong o (not (keeps_rules (raw_at b o))) ∷ cell_tests b (o + 6) n
+cell_tests b o (suc n) =
+    test CellWrong o (not (keeps_rules (raw_at b o))) ∷ cell_tests b (o + CELL_BYTES) n
+
+-- the rules of a file as tests, in order
+abbrev pub file_tests : List ℕ → List Test
+file_tests b =
+    test FileShort 0 (nat_lt (length b) HEADER_BYTES)
+    ∷ test CellsTooMany 0 (nat_lt MAX_CELLS (file_header b).variables)
+    ∷ test CellsTooMany 2 (nat_lt MAX_CELLS (file_header b).bindings)
+    ∷ test FileLength 0 (not (length b == cell_start (cell_count (file_header b))))
+    ∷ cell_tests b HEADER_BYTES (cell_count (file_header b))
 
 -- the first rule that a file breaks, if it breaks one
 abbrev pub why_refused : List ℕ → Option Fault
-why_refused b =
-    first
-    (test FileShort 0 (nat_lt (length b) 8)
-    ∷ test CellsTooMany 0 (nat_lt 1024 (be16 b 0))
-    ∷ test CellsTooMany 2 (nat_lt 1024 (be16 b 2))
-    ∷ test FileLength 0 (not (length b == 8 + 6 * (be16 b 0 + be16 b 2)))
-    ∷ cell_tests b 8 (be16 b 0 + be16 b 2))
+why_refused b = first (file_tests b)
 
 -- a file is accepted where it breaks none
 abbrev pub accepted : List ℕ → Bool
 accepted b = not (is_some (why_refused b))
 
 -- the header of a file that is accepted; a refused file has none
-abbrev pub good_header : List ℕ → Option Header
-good_header b = cond (accepted b) (Some (header_of b)) None
+abbrev pub good_header : List ℕ → Option FileHeader
+good_header b = if accepted b then Some (file_header b) else None
+
+-- where a row begins
+abbrev pub row_start : List ℕ → Row → ℕ
+row_start b row = header_start (file_header b) row
+
+-- how many cells it has; in a refused file, none
+abbrev pub row_count : List ℕ → Row → ℕ
+row_count b row = if accepted b then header_count (file_header b) row else 0
 
 -- n cells from o on
-abbrev pub cells : List ℕ → ℕ → ℕ → List Cell
-cells b o zero = []
-cells b o (suc n) = cell_of (raw_at b o) ∷ cells b (o + 6) n
+abbrev pub cells_from : List ℕ → ℕ → ℕ → List Cell
+cells_from b o zero = []
+cells_from b o (suc n) = cell_of (raw_at b o) ∷ cells_from b (o + CELL_BYTES) n
 
--- how many variables there are; a refused file has none
-abbrev pub variable_count : List ℕ → ℕ
-variable_count b = cond (accepted b) (be16 b 0) 0
+-- the cells of a row
+abbrev pub row_cells : List ℕ → Row → List Cell
+row_cells b row = cells_from b (row_start b row) (row_count b row)
 
--- how many bindings there are; a refused file has none
-abbrev pub binding_count : List ℕ → ℕ
-binding_count b = cond (accepted b) (be16 b 2) 0
-
--- where the bindings begin, after the header and the variables
-abbrev pub binding_start : List ℕ → ℕ
-binding_start b = 8 + 6 * variable_count b
-
--- the host over a file: the receiver, the cells and what is understood; a refused file has receiver nil and no cells
+-- the host over a file: the receiver, the cells and what is understood; a refused file has receiver
+-- nil and no cells
 abbrev pub week_meaning : List ℕ → Meaning
 week_meaning b = record {
-  receiver = cond (accepted b) (Object (be32 b 4)) Nil;
-  variables = cells b 8 (variable_count b);
-  bindings = cells b (binding_start b) (binding_count b);
+  receiver = if accepted b then Object (file_header b).receiver else Nil;
+  variables = row_cells b Variables;
+  bindings = row_cells b Bindings;
   understands = λ m. is_some (replies m);
 }
 
@@ -68,20 +77,11 @@ Replied b m v c = (replies m ≡ Some v) × (c ≡ b)
 
 -- where cell i of n cells from s on begins, if there is one
 abbrev pub place_in : ℕ → ℕ → ℕ → Result ℕ Fault
-place_in s n i = cond (nat_lt i n) (Ok (s + 6 * i)) (Err (fault CellMissing i))
-
--- the bytes with v in cell i of n cells from s on; they stay where there is no such cell
-abbrev pub row_written : List ℕ → ℕ → ℕ → ℕ → Value → List ℕ
-row_written b s n i v = cond (nat_lt i n) (written b (s + 6 * i) v) b
-
--- the bytes with v in variable i
-abbrev pub variable_written : List ℕ → ℕ → Value → List ℕ
-variable_written b i v = row_written b 8 (variable_count b) i v
-
--- the bytes with v in binding i
-abbrev pub binding_written : List ℕ → ℕ → Value → List ℕ
-binding_written b i v = row_written b (binding_start b) (binding_count b) i v
+place_in s n i = if nat_lt i n then Ok (s + CELL_BYTES * i) else Err (fault CellMissing i)
 
 -- a cell of an accepted file begins at o
-abbrev pub CellAt : List ℕ → ℕ → Type 0
-CellAt b o = (accepted b ≡ true) × ((k : ℕ) × (k < be16 b 0 + be16 b 2) × (o ≡ 8 + 6 * k))
+pub record CellAt (b : List ℕ) (o : ℕ) : Type 0 where
+  pub accepts : accepted b ≡ true
+  pub number : ℕ
+  pub below : number < cell_count (file_header b)
+  pub begins : o ≡ cell_start number

@@ -1,44 +1,45 @@
 -- What is true of every week file.
-use Rattle.std.specs.Prelude.{◌≡◌, ℕ, ◌+◌, ◌*◌, ◌<◌, ◌≤◌, ◌≢◌, ◌⊎◌, List, length, Some, Ok, Decides}
+use Rattle.std.specs.Prelude.{◌≡◌, ℕ, ◌<◌, ◌≤◌, ◌≢◌, ◌⊎◌, ◌↔◌, IsTrue, List, length, Some, Ok}
 use Rattle.std.specs.List.{slice_get}
-use Rattle.values.specs.Bytes.{be16}
 use Rattle.values.specs.declared.kinds.Value.{Value}
-use Rattle.hosts.specs.Meaning.{Cell, mark_of, value_at}
-use Rattle.week_file.specs.Cells.{RawCell, raw_at, value_in}
-use Rattle.week_file.specs.Files.{accepted, variable_count, binding_count, week_meaning, variable_written, binding_written}
+use Rattle.hosts.specs.Meaning.{Cell, mark_of, value_at, row_of}
+use Rattle.hosts.specs.declared.rows.Row.{Row}
+use Rattle.hosts.specs.declared.rows.TheConstants.{MAX_CELLS}
+use Rattle.week_file.specs.Cells.{RawCell, raw_at, raw_value}
+use Rattle.week_file.specs.Headers.{file_header, header_count, cell_start, cell_count}
+use Rattle.week_file.specs.Files.{accepted, row_count, week_meaning}
+use Rattle.week_file.specs.Rows.{cell_written}
+use Rattle.week_file.specs.declared.headers.TheConstants.{HEADER_BYTES}
 
 -- a cell is marked open or trusted, and a value has its kind and its number field
 abbrev pub Sound : RawCell → Type 0
-Sound c = ((c.mark ≡ 0) ⊎ (c.mark ≡ 1)) × ((v : Value) × (value_in c ≡ Some v))
+Sound c = ((c.mark ≡ 0) ⊎ (c.mark ≡ 1)) × ((v : Value) × (raw_value c ≡ Some v))
 
 -- a week file, rule by rule
 pub record IsWeekFile (b : List ℕ) : Type 0 where
-  pub header : 8 ≤ length b
-  pub few_variables : be16 b 0 ≤ 1024
-  pub few_bindings : be16 b 2 ≤ 1024
-  pub ends : length b ≡ 8 + 6 * (be16 b 0 + be16 b 2)
-  pub sound : (k : ℕ) → k < be16 b 0 + be16 b 2 → Sound (raw_at b (8 + 6 * k))
+  pub header : HEADER_BYTES ≤ length b
+  pub few : (row : Row) → header_count (file_header b) row ≤ MAX_CELLS
+  pub ends : length b ≡ cell_start (cell_count (file_header b))
+  pub sound : (k : ℕ) → k < cell_count (file_header b) → Sound (raw_at b (cell_start k))
 
 -- a file is accepted exactly if it keeps every rule
 abbrev pub AcceptsExactly : Type 0
-AcceptsExactly = (b : List ℕ) → Decides (accepted b) (IsWeekFile b)
+AcceptsExactly = (b : List ℕ) → IsTrue (accepted b) ↔ IsWeekFile b
 
--- from the cells cs to the cells ds: v is read from cell i, whose mark stays, and every other cell stays
+-- from the cells cs to the cells ds: v is read from cell i, whose mark stays, and every other cell
+-- stays
 pub record ReadsBack (cs ds : List Cell) (i : ℕ) (v : Value) : Type 0 where
   pub value : value_at ds i ≡ Ok v
   pub mark : mark_of ds i ≡ mark_of cs i
   pub others : (j : ℕ) → j ≢ i → slice_get ds j ≡ slice_get cs j
 
--- what is written into a variable is read back, and no other cell is altered
-abbrev pub VariablesReadBack : Type 0
-VariablesReadBack =
-    (b : List ℕ) (i : ℕ) (v : Value) → i < variable_count b →
-    ReadsBack (week_meaning b).variables (week_meaning (variable_written b i v)).variables i v
-    × ((week_meaning (variable_written b i v)).bindings ≡ (week_meaning b).bindings)
+-- from the file b to the file c: v is read back from cell i of a row, and the other row stays
+pub record ReadsBackInRow (b c : List ℕ) (row : Row) (i : ℕ) (v : Value) : Type 0 where
+  pub back : ReadsBack (row_of (week_meaning b) row) (row_of (week_meaning c) row) i v
+  pub other : (r : Row) → r ≢ row → row_of (week_meaning c) r ≡ row_of (week_meaning b) r
 
--- what is written into a binding is read back, and no other cell is altered
-abbrev pub BindingsReadBack : Type 0
-BindingsReadBack =
-    (b : List ℕ) (i : ℕ) (v : Value) → i < binding_count b →
-    ReadsBack (week_meaning b).bindings (week_meaning (binding_written b i v)).bindings i v
-    × ((week_meaning (binding_written b i v)).variables ≡ (week_meaning b).variables)
+-- what is written into a cell is read back, and no other cell is altered
+abbrev pub WritesReadBack : Type 0
+WritesReadBack =
+    (b : List ℕ) (row : Row) (i : ℕ) (v : Value) → i < row_count b row →
+    ReadsBackInRow b (cell_written b row i v) row i v

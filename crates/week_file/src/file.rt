@@ -6,38 +6,40 @@ ghost use Rattle.hosts.specs.Sending.{sent};
 ghost use Rattle.week_file.specs.Cells.{written};
 ghost use Rattle.week_file.specs.Files.{good_header, week_meaning, CellAt, Replied};
 ghost use Rattle.week_file.specs.Rows.{place_at, filed_in, cell_written};
-ghost use Rattle.week_file.specs.Laws.{AcceptsExactly, VariablesReadBack, BindingsReadBack};
+ghost use Rattle.week_file.specs.Laws.{AcceptsExactly, WritesReadBack};
 ghost use Rattle.hosts.proofs.Cells.{kept_same};
 ghost use Rattle.week_file.specs.Counts.{few_rows};
 
 use crate::cells::{FileCell, write_value};
-use crate::headers::Header;
+use crate::headers::FileHeader;
 use crate::opening::checked_header;
 use crate::replies::reply;
 use hosts::{Host, Message, Row};
 use values::{Fault, Rule, Value};
 
-// The bytes of a file, and their header where they are accepted.
+/// A host over the bytes of a week file: it reads and writes the bytes themselves. Over bytes that
+/// `check_file` refuses, the receiver is nil and there are no cells.
 #[derive(Drop)]
 pub struct WeekFile {
     bytes: Vec<u8>,
-    header: Option<Header>,
+    header: Option<FileHeader>,
     ghost known: { header ≡ good_header bytes.items },
 }
 
 impl WeekFile {
-    // A host over these bytes. Where they are refused, its receiver is nil and it has no cells.
+    /// A host over these bytes, whatever they are. Its receiver is the object that the header
+    /// names, and its cells are those of the file. Over bytes that `check_file` refuses, its
+    /// receiver is nil and it has no cells; `check_file` says why.
     pub fn open(bytes: Vec<u8>) -> WeekFile
         ensures holds { result.bytes ≡ bytes }
         ensures accepts { AcceptsExactly }
-        ensures variables { VariablesReadBack }
-        ensures bindings { BindingsReadBack }
+        ensures reads_back { WritesReadBack }
     {
         let header = checked_header(&bytes).ok();
         WeekFile { bytes, header }
     }
 
-    // The bytes, with all that was written.
+    /// The bytes, with all that was written.
     pub fn into_bytes(self) -> Vec<u8>
         ensures { result ≡ self.bytes }
     {
@@ -98,10 +100,11 @@ impl Host for WeekFile {
         Ok(self.cell(row, i)?.value)
     }
 
-    #[tactic(auto, using(crate::proofs::Asking::place_filed, crate::proofs::Asking::put_at, crate::proofs::Asking::put_past))]
+    #[tactic(auto, using(crate::proofs::Asking::place_filed, crate::proofs::Asking::put_at))]
     fn set_value(&mut self, row: Row, i: usize, v: Value) -> Result<(), Fault>
         ensures answer { result ≡ place_of (row_of (week_meaning self.old.bytes.items) row) i }
-        ensures after { week_meaning self.new.bytes.items ≡ with_cell (week_meaning self.old.bytes.items) row i v }
+        ensures after { week_meaning self.new.bytes.items
+            ≡ with_cell (week_meaning self.old.bytes.items) row i v }
         ensures writes { self.new.bytes.items ≡ cell_written self.old.bytes.items row i v }
     {
         let place = self.cell_place(row, i)?;
@@ -110,7 +113,8 @@ impl Host for WeekFile {
     }
 
     fn send(&mut self, m: &Message) -> Option<Value>
-        ensures answer { Answered week_meaning Replied self.old.bytes.items (sent m.now) result self.new.bytes.items }
+        ensures answer { Answered week_meaning Replied self.old.bytes.items (sent m.now) result
+            self.new.bytes.items }
         ensures keeps { self.new.bytes.items ≡ self.old.bytes.items }
     {
         reply(m)

@@ -3,18 +3,15 @@ ghost use Rattle.std.specs.Prelude.{◌≡◌, ◌-◌, ◌/◌, ◌≤◌, leng
 ghost use Rattle.values.specs.Order.{first, unless};
 ghost use Rattle.week_file.specs.Cells.{breaks_rules};
 ghost use Rattle.week_file.specs.Files.{cell_tests, why_refused};
-ghost use Rattle.week_file.specs.Headers.{header_of};
+ghost use Rattle.week_file.specs.Headers.{file_header};
 
-use crate::cells::{CELL, breaks_rules};
-use crate::headers::{HEADER, Header};
-use hosts::Row;
+use crate::cells::{CELL_BYTES, breaks_rules};
+use crate::headers::{FileHeader, HEADER_BYTES};
+use hosts::{MAX_CELLS, Row};
 use values::{Fault, Rule};
 
-// The most variables, and the most bindings.
-const MOST: u16 = 1024;
-
 // The number of the first cell that breaks its rules, if one does.
-fn first_wrong(cells: &[[u8; CELL]]) -> Option<usize>
+fn first_wrong_cell(cells: &[[u8; CELL_BYTES]]) -> Option<usize>
     ensures { result ≡ position breaks_rules cells.now }
 {
     cells.iter().position(breaks_rules)
@@ -22,36 +19,44 @@ fn first_wrong(cells: &[[u8; CELL]]) -> Option<usize>
 
 // Refuses the first cell that breaks its rules, if one does.
 fn check_cells(bytes: &[u8]) -> Result<(), Fault>
-    requires { 8 ≤ length bytes.now }
-    ensures { result ≡ unless (first (cell_tests bytes.now 8 ((length bytes.now - 8) / 6))) tt }
+    requires { HEADER_BYTES ≤ length bytes.now }
+    ensures { let count = (length bytes.now - HEADER_BYTES) / CELL_BYTES in
+        result ≡ unless (first (cell_tests bytes.now HEADER_BYTES count)) tt }
 {
-    let (cells, _) = bytes[HEADER..].as_chunks();
-    match first_wrong(cells) {
-        Some(k) => Err(Rule::CellWrong.at(HEADER + CELL * k)),
+    let (cells, _) = bytes[HEADER_BYTES..].as_chunks();
+    match first_wrong_cell(cells) {
+        Some(k) => Err(Rule::CellWrong.at(HEADER_BYTES + CELL_BYTES * k)),
         None => Ok(()),
     }
 }
 
-// The header of bytes that break no rule; otherwise the first rule that they break.
-pub(crate) fn checked_header(bytes: &[u8]) -> Result<Header, Fault>
-    ensures { result ≡ unless (why_refused bytes.now) (header_of bytes.now) }
+/// The header of bytes that break no rule; otherwise the first rule that they break.
+pub(crate) fn checked_header(bytes: &[u8]) -> Result<FileHeader, Fault>
+    ensures { result ≡ unless (why_refused bytes.now) (file_header bytes.now) }
 {
-    let header = Header::read(bytes).ok_or(Rule::FileShort.at(0))?;
-    if header.variables > MOST {
+    let header = FileHeader::read(bytes).ok_or(Rule::FileShort.at(0))?;
+    let variables = header.count(Row::Variables);
+    let bindings = header.count(Row::Bindings);
+    if variables > MAX_CELLS {
         return Err(Rule::CellsTooMany.at(0));
     }
-    if header.bindings > MOST {
+    if bindings > MAX_CELLS {
         return Err(Rule::CellsTooMany.at(2));
     }
-    let count = header.count(Row::Variables) + header.count(Row::Bindings);
-    if bytes.len() != HEADER + CELL * count {
+    if bytes.len() != HEADER_BYTES + CELL_BYTES * (variables + bindings) {
         return Err(Rule::FileLength.at(0));
     }
     check_cells(bytes)?;
     Ok(header)
 }
 
-// Refuses bytes that break a rule, by the first that they break.
+/// Whether these bytes are a week file. They are refused by the first of these faults that applies:
+/// - 30 at 0: there are fewer than 8 bytes, which a header takes;
+/// - 31 at 0: there are more variables than `MAX_CELLS` of `hosts`;
+/// - 31 at 2: there are more bindings than that;
+/// - 32 at 0: the file does not end exactly with its last cell;
+/// - 34 where a cell begins: it breaks the rules of a cell, and is the first that does. Its mark is
+///   neither 0 nor 1, its kind is above 6, or its number field does not suit its kind.
 pub fn check_file(bytes: &[u8]) -> Result<(), Fault>
     ensures { result ≡ unless (why_refused bytes.now) tt }
 {

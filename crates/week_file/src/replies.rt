@@ -6,21 +6,19 @@ ghost use Rattle.week_file.specs.Replies.{replies};
 use hosts::Message;
 use values::Value;
 
-// The selectors that a week file understands. They are constants and no enum, since a number has a meaning only with the right count of arguments.
-
-// Whether the receiver is nil.
+/// The selector that asks whether the receiver is nil.
 const IS_NIL: u32 = 20;
 
-// Whether the receiver is anything but nil.
+/// The selector that asks whether the receiver is anything but nil.
 const NOT_NIL: u32 = 21;
 
-// Whether the receiver is the same as the argument.
+/// The selector that asks whether the receiver is the same as the argument.
 const SAME: u32 = 24;
 
-// Nil, whatever the receiver is.
+/// The selector that is answered by nil, whatever the receiver is.
 const ANSWER_NIL: u32 = 25;
 
-// The answer to m, if it is understood.
+/// The answer to m, if it is understood.
 pub(crate) fn reply(m: &Message) -> Option<Value>
     ensures { result ≡ replies (sent m.now) }
 {

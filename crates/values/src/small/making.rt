@@ -8,7 +8,8 @@ use super::SmallInteger;
 use crate::unknown::Unknown;
 
 impl SmallInteger {
-    // The low 31 bits of n, signed.
+    /// The low 31 bits of n, signed: the highest bit of n does not count, and of the others the
+    /// highest is the sign.
     pub fn new(n: i32) -> SmallInteger
         ensures { result.value ≡ low31 n }
     {
@@ -28,7 +29,7 @@ impl TryFrom<i64> for SmallInteger {
 
     ghost try_from_gives = { λ n r. r ≡ ok_or (small n) (record { 0 = n }) };
 
-    // The small integer that n is, if it is one.
+    /// The small integer that n is. Any other n comes back in the error.
     fn try_from(n: i64) -> Result<SmallInteger, Unknown<i64>> {
         if -0x4000_0000 <= n && n < 0x4000_0000 {
             Ok(SmallInteger { value: n as i32 })
@@ -41,7 +42,7 @@ impl TryFrom<i64> for SmallInteger {
 impl From<SmallInteger> for i64 {
     ghost from_gives = { λ s n. n ≡ s.value };
 
-    // The number itself, in twice the width: any sum or product of two fits.
+    /// The number itself, in twice the width: any sum or product of two fits.
     fn from(s: SmallInteger) -> i64 {
         i64::from(s.value)
     }
@@ -50,7 +51,7 @@ impl From<SmallInteger> for i64 {
 impl From<SmallInteger> for i32 {
     ghost from_gives = { λ s n. n ≡ s.value };
 
-    // The number itself.
+    /// The number itself.
     fn from(s: SmallInteger) -> i32 {
         s.value
     }

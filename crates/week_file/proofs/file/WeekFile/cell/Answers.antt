@@ -8,13 +8,18 @@ use Rattle.week_file.proofs.file.WeekFile.cell.Goals as goal
 pub unwrap-requires-2 : goal.unwrap-requires-2
 unwrap-requires-2 c =
     let chunk = if_some _ _ _ c.unwrap.ensures c.first_chunk.ensures.cases in
-    let read = read_at (vec_items c.args.self.now.bytes) c.args.row c.args.i c.in_ok-place.place _ _ c.in_ok-place.ensures c.deref.ensures.value chunk.same in
+    let b = vec_items c.args.self.now.bytes in
+    let place = c.in_ok-place.ensures in
+    let read = read_at b c.args.row c.args.i _ _ _ place c.deref.ensures.value chunk.same in
     search rules
 
 pub returns : goal.returns
 returns c =
     let b = vec_items c.args.self.now.bytes in
     let chunk = if_some _ _ _ c.unwrap.ensures c.first_chunk.ensures.cases in
-    let read = c.read.ensures ∙ read_at b c.args.row c.args.i c.in_ok-place.place _ _ c.in_ok-place.ensures c.deref.ensures.value chunk.same in
-    let same : c.unwrap-2.result ≡ filed (raw_at b c.in_ok-place.place) = cc (c.unwrap-2.ensures, read) in
-    ap Ok same ∙ ap (filed_by b) c.in_ok-place.ensures
+    let place = c.in_ok-place.ensures in
+    let read = c.read.ensures
+    ∙ read_at b c.args.row c.args.i _ _ _ place c.deref.ensures.value chunk.same in
+    let same : c.unwrap-2.result ≡ filed (raw_at b c.in_ok-place.place) =
+    cc (c.unwrap-2.ensures, read) in
+    ap Ok same ∙ ap (filed_by b) place

@@ -7,5 +7,8 @@ use Rattle.week_file.proofs.file.WeekFile.put.Goals as goal
 
 pub invariant_of-self : goal.invariant_of-self
 invariant_of-self c =
-    let same = with_items_is c.args.self.now.bytes c.write_value.new.bytes (omega arith) ∙ c.write_value.ensures ∙ ap (λ l. written l c.args.place c.args.v) c.deref_mut.ensures.value in
-    record { known = c.args.self.now.known ∙ sym (ap good_header same ∙ header_written (vec_items c.args.self.now.bytes) c.args.place c.args.v c.requires) }
+    let before = c.args.self.now.bytes in
+    let same = with_items_is before c.write_value.new.bytes (omega arith) ∙ c.write_value.ensures
+    ∙ ap (λ l. written l c.args.place c.args.v) c.deref_mut.ensures.value in
+    let stays = header_written (vec_items before) c.args.place c.args.v c.requires in
+    record { known = c.args.self.now.known ∙ sym (ap good_header same ∙ stays) }

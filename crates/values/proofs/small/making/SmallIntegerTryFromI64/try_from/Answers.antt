@@ -9,4 +9,5 @@ returns-then-n-lt1073741824 c =
     let n = c.args.n in
     let wide = to_z-of_z w64 n c.ranges.n in
     let fits : SFits w32 n = omega (arith, ints) in
-    ap (λ o. ok_or o (record { 0 = n })) (sym (small_is _ _ (ap (λ z. to_z w32 (of_z w32 z)) wide ∙ to_z-of_z w32 n fits)))
+    let same = ap (λ z. to_z w32 (of_z w32 z)) wide ∙ to_z-of_z w32 n fits in
+    ap (λ o. ok_or o (record { 0 = n })) (sym (small_is _ _ same))
