@@ -1,6 +1,6 @@
 -- The literals of a parcel, and the rules that they keep.
 use Rattle.std.specs.Prelude.{ℕ, ◌+◌, ◌*◌, Bool, false, if◌then◌else◌, not, List, [], ◌∷◌, length, is_some, Some, None, Option, ◌==◌, nat_le, nat_lt}
-use Rattle.std.specs.Option.{option_map}
+use Rattle.std.specs.Option.{option_map, option_map_or}
 use Rattle.values.specs.Bytes.{at, be32}
 use Rattle.values.specs.Kinds.{value_of}
 use Rattle.values.specs.Order.{Test, test, first, first_from}
@@ -48,14 +48,9 @@ entry ls k = literal_from ls (LITERAL_BYTES * k)
 abbrev pub literal : List ℕ → ℕ → Option Literal
 literal ls k = if nat_lt (length ls) (LITERAL_BYTES * k + LITERAL_BYTES) then None else entry ls k
 
--- whether there is a number, and it is at or above the count
-abbrev pub beyond_count : ℕ → Option ℕ → Bool
-beyond_count count (Some n) = nat_le count n
-beyond_count count None = false
-
 -- whether a literal names a binding at or above the count
 abbrev pub binding_missing : ℕ → Option Literal → Bool
-binding_missing bindings l = beyond_count bindings (binding_of l)
+binding_missing bindings l = option_map_or (nat_le bindings) (binding_of l) false
 
 -- the rules of literal k, in order
 abbrev pub literal_tests : List ℕ → ℕ → ℕ → List Test

@@ -1,6 +1,6 @@
 pub mod Trust
 pub mod Exits
-pub mod Turns
+pub mod SweepSteps
 pub mod Greatest
-pub mod Works
+pub mod Worklist
 pub mod Whole

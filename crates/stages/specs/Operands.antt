@@ -1,67 +1,49 @@
 -- Which operands an operation may have.
-use Rattle.std.specs.Prelude.{ℕ, ◌+◌, ◌/◌, ◌%◌, Bool, true, false, not, Some, None, Option, ◌==◌, nat_le}
-use Rattle.values.specs.declared.kinds.Value.TheVariants.{Nil, True, False, Integer, Object, Block, Closure}
-use Rattle.parcels.specs.Literals.{literal}
+use Rattle.std.specs.Prelude.{ℕ, ◌+◌, ◌/◌, ◌%◌, Bool, true, false, is_some, Some, Option, ◌==◌, nat_lt}
+use Rattle.values.specs.declared.kinds.Value.TheVariants.{Block}
+use Rattle.parcels.specs.Literals.{literal, binding_of, constant_of}
 use Rattle.parcels.specs.Parts.{Parts}
+use Rattle.parcels.specs.declared.layout.Layout.{Layout}
 use Rattle.parcels.specs.declared.literals.Literal.{Literal}
-use Rattle.parcels.specs.declared.literals.Literal.TheVariants.{Constant, Selector, Binding}
+use Rattle.parcels.specs.declared.literals.Literal.TheVariants.{Constant, Selector}
 use Rattle.parcels.specs.declared.opcodes.Source.TheVariants as source
 use Rattle.parcels.specs.declared.opcodes.Target.TheVariants as target
 use Rattle.parcels.specs.declared.opcodes.Operation.{Operation}
-use Rattle.parcels.specs.declared.opcodes.Operation.TheVariants.{Send, SendSelector, Push, Store, Jump, Branch, Pop, Duplicate, Close, End, Line}
+use Rattle.parcels.specs.declared.opcodes.Operation.TheVariants.{SendSelector, Push, Store}
+use Rattle.parcels.specs.declared.opcodes.TheConstants.{INTEGER_LIMIT, SPECIAL_COUNT}
 
 -- a selector with c arguments
-abbrev pub selects : Option Literal → ℕ → Bool
-selects None c = false
-selects (Some (Constant v)) c = false
-selects (Some (Selector n d)) c = d == c
-selects (Some (Binding n)) c = false
+abbrev pub is_selector : Option Literal → ℕ → Bool
+is_selector (Some (Selector n d)) c = d == c
+is_selector _ c = false
 
 -- a binding
-abbrev pub binds : Option Literal → Bool
-binds None = false
-binds (Some (Constant v)) = false
-binds (Some (Selector n d)) = false
-binds (Some (Binding n)) = true
+abbrev pub is_binding : Option Literal → Bool
+is_binding l = is_some (binding_of l)
 
 -- a value
-abbrev pub constant : Option Literal → Bool
-constant None = false
-constant (Some (Constant v)) = true
-constant (Some (Selector n d)) = false
-constant (Some (Binding n)) = false
+abbrev pub is_constant : Option Literal → Bool
+is_constant l = is_some (constant_of l)
 
 -- a block
-abbrev pub block : Option Literal → Bool
-block None = false
-block (Some (Constant Nil)) = false
-block (Some (Constant True)) = false
-block (Some (Constant False)) = false
-block (Some (Constant (Integer s))) = false
-block (Some (Constant (Object n))) = false
-block (Some (Constant (Block n))) = true
-block (Some (Constant (Closure n))) = false
-block (Some (Selector n d)) = false
-block (Some (Binding n)) = false
+abbrev pub is_block : Option Literal → Bool
+is_block (Some (Constant (Block n))) = true
+is_block _ = false
 
--- the operand a breaks the rule of its operation, over so many variables
-abbrev pub operand_wrong : Parts → ℕ → ℕ → Operation → Bool
-operand_wrong p vs a Send = false
-operand_wrong p vs a (SendSelector s) = not (selects (literal p.literals (a / 256)) (a % 256))
-operand_wrong p vs a (Push source.Cell) = nat_le (p.layout.argument_count + p.layout.local_count) a
-operand_wrong p vs a (Push source.Binding) = not (binds (literal p.literals a))
-operand_wrong p vs a (Push source.Variable) = nat_le vs a
-operand_wrong p vs a (Push source.Integer) = nat_le 536870912 a
-operand_wrong p vs a (Push source.Special) = nat_le 3 a
-operand_wrong p vs a (Push source.Literal) = not (constant (literal p.literals a))
-operand_wrong p vs a (Push source.Receiver) = false
-operand_wrong p vs a (Store target.Cell) = nat_le (p.layout.argument_count + p.layout.local_count) a
-operand_wrong p vs a (Store target.Binding) = not (binds (literal p.literals a))
-operand_wrong p vs a (Store target.Variable) = nat_le vs a
-operand_wrong p vs a (Jump d) = false
-operand_wrong p vs a (Branch b) = false
-operand_wrong p vs a Pop = false
-operand_wrong p vs a Duplicate = false
-operand_wrong p vs a Close = false
-operand_wrong p vs a (End e) = false
-operand_wrong p vs a Line = false
+-- how many cells of a frame an operand can name: those of the arguments and the locals
+abbrev pub named_cells : Layout → ℕ
+named_cells l = l.argument_count + l.local_count
+
+-- the operand a keeps the rule of its operation, over so many variables
+abbrev pub operand_fits : Parts → ℕ → ℕ → Operation → Bool
+operand_fits p vars a (SendSelector s) = is_selector (literal p.literals (a / 256)) (a % 256)
+operand_fits p vars a (Push source.Cell) = nat_lt a (named_cells p.layout)
+operand_fits p vars a (Push source.Binding) = is_binding (literal p.literals a)
+operand_fits p vars a (Push source.Variable) = nat_lt a vars
+operand_fits p vars a (Push source.Integer) = nat_lt a INTEGER_LIMIT
+operand_fits p vars a (Push source.Special) = nat_lt a SPECIAL_COUNT
+operand_fits p vars a (Push source.Literal) = is_constant (literal p.literals a)
+operand_fits p vars a (Store target.Cell) = nat_lt a (named_cells p.layout)
+operand_fits p vars a (Store target.Binding) = is_binding (literal p.literals a)
+operand_fits p vars a (Store target.Variable) = nat_lt a vars
+operand_fits p vars a _ = true

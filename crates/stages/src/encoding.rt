@@ -1,20 +1,21 @@
-// The encoding rules, at each instruction in turn.
+// The encoding rules at one instruction.
 ghost use Rattle.std.specs.Prelude.{◌≡◌, not, ◌&&◌, length};
 ghost use Rattle.parcels.specs.Parts.{parts};
 ghost use Rattle.stages.specs.Contexts.{context_of};
-ghost use Rattle.stages.specs.Operands.{selects, binds, constant, block, operand_wrong};
-ghost use Rattle.stages.specs.Encoding.{asks_self, names_trusted, stores_trusted, lands_wrong, operation_tests, site_fault};
+ghost use Rattle.stages.specs.Operands.{is_selector, is_binding, is_constant, is_block, operand_fits};
+ghost use Rattle.stages.specs.Encoding.{asks_self, names_trusted, stores_trusted, landing_fits, operation_tests, site_fault};
 ghost use Rattle.values.specs.Order.{first, unless};
 
 use crate::contexts::Context;
 use hosts::{Host, Row};
 use parcels::{
-    CodeKind, Direction, Ending, Flow, Instruction, Literal, Operation, Source, Target, landing,
-    literal_at,
+    CodeKind, Direction, Ending, Flow, INTEGER_LIMIT, Instruction, Literal, Operation,
+    SPECIAL_COUNT, Source, Target, landing, literal_at,
 };
 use values::{Fault, Rule, Value};
 
-// An instruction where it stands: its place, the following place, and whether the instruction before it pushes a block.
+// An instruction where it stands: its place, the following place, and whether the instruction
+// before it pushes a block.
 #[derive(Clone, Copy)]
 pub struct Site {
     pub place: usize,
@@ -23,7 +24,8 @@ pub struct Site {
     pub after_block: bool,
 }
 
-// The chain use of a clean block. A chain use is any number that the flags hold; only this one and 31 have a meaning to the check.
+// The chain use of a clean block. A chain use is any number that the flags hold; only this one and
+// the next have a meaning to the check.
 const CLEAN: u8 = 0;
 
 // The chain use that permits a method return.
@@ -31,28 +33,28 @@ const RETURNING: u8 = 31;
 
 // Whether a literal is a selector with so many arguments.
 fn is_selector(literal: Option<Literal>, count: u32) -> bool
-    ensures { result ≡ selects literal count }
+    ensures { result ≡ is_selector literal count }
 {
-    matches!(literal, Some(Literal::Selector { argument_count, .. }) if argument_count as u32 == count)
+    matches!(literal, Some(Literal::Selector { argument_count: n, .. }) if n as u32 == count)
 }
 
 // Whether a literal is a binding.
 fn is_binding(literal: Option<Literal>) -> bool
-    ensures { result ≡ binds literal }
+    ensures { result ≡ is_binding literal }
 {
     matches!(literal, Some(Literal::Binding(_)))
 }
 
 // Whether a literal is a value.
 fn is_constant(literal: Option<Literal>) -> bool
-    ensures { result ≡ constant literal }
+    ensures { result ≡ is_constant literal }
 {
     matches!(literal, Some(Literal::Constant(_)))
 }
 
 // Whether a literal is a block.
 pub fn is_block(literal: Option<Literal>) -> bool
-    ensures { result ≡ block literal }
+    ensures { result ≡ is_block literal }
 {
     matches!(literal, Some(Literal::Constant(Value::Block(_))))
 }
@@ -67,37 +69,41 @@ fn asks_self(operation: Operation) -> bool
     )
 }
 
-// Whether a jump lands where no instruction starts.
-fn lands_wrong(code: &[u8], next: usize, a: u32, flow: Flow) -> bool
-    ensures { result ≡ lands_wrong code.now next a flow }
+// Whether a jump lands where an instruction starts; what does not jump does.
+fn landing_fits(code: &[u8], next: usize, a: u32, flow: Flow) -> bool
+    ensures { result ≡ landing_fits code.now next a flow }
 {
     let direction = match flow {
         Flow::Jumps(direction) => direction,
         Flow::Branches => Direction::Forward,
-        Flow::Follows | Flow::Ends => return false,
+        Flow::Follows | Flow::Ends => return true,
     };
-    landing(code, direction, next, a).is_none()
+    landing(code, direction, next, a).is_some()
 }
 
 impl<H: Host> Context<'_, H> {
-    // Whether an operand breaks the rule of its operation.
-    fn operand_wrong(&self, operation: Operation, a: u32) -> bool
-        ensures { result ≡ operand_wrong (parts self.now.parcel) (length (context_of H.means self.now).marks.variables) a operation }
+    // Whether an operand keeps the rule of its operation.
+    fn operand_fits(&self, operation: Operation, a: u32) -> bool
+        ensures { result
+            ≡ operand_fits (parts self.now.parcel)
+            (length (context_of H.means self.now).marks.variables) a operation }
     {
         let literals = self.parcel.literals;
         match operation {
-            Operation::SendSelector { .. } => !is_selector(literal_at(literals, a / 256), a % 256),
-            Operation::Push(Source::Cell) | Operation::Store(Target::Cell) => a as usize
-                >= self.parcel.layout.base(),
-            Operation::Push(Source::Binding) | Operation::Store(Target::Binding) => !is_binding(
-                literal_at(literals, a),
-            ),
-            Operation::Push(Source::Variable) | Operation::Store(Target::Variable) => a as usize
-                >= self.host.count(Row::Variables),
-            Operation::Push(Source::Integer) => a >= 536_870_912,
-            Operation::Push(Source::Special) => a >= 3,
-            Operation::Push(Source::Literal) => !is_constant(literal_at(literals, a)),
-            _ => false,
+            Operation::SendSelector { .. } => is_selector(literal_at(literals, a / 256), a % 256),
+            Operation::Push(Source::Cell) | Operation::Store(Target::Cell) => {
+                (a as usize) < self.parcel.layout.base()
+            }
+            Operation::Push(Source::Binding) | Operation::Store(Target::Binding) => {
+                is_binding(literal_at(literals, a))
+            }
+            Operation::Push(Source::Variable) | Operation::Store(Target::Variable) => {
+                (a as usize) < self.host.count(Row::Variables)
+            }
+            Operation::Push(Source::Integer) => a < INTEGER_LIMIT,
+            Operation::Push(Source::Special) => a < SPECIAL_COUNT,
+            Operation::Push(Source::Literal) => is_constant(literal_at(literals, a)),
+            _ => true,
         }
     }
 
@@ -116,7 +122,9 @@ impl<H: Host> Context<'_, H> {
 
     // Whether an instruction stores to a trusted cell.
     fn stores_trusted(&self, operation: Operation, a: u32) -> bool
-        ensures { result ≡ stores_trusted (context_of H.means self.now).marks (context_of H.means self.now).parts.literals a operation }
+        ensures { result
+            ≡ stores_trusted (context_of H.means self.now).marks
+            (context_of H.means self.now).parts.literals a operation }
     {
         match operation {
             Operation::Store(Target::Variable) => self
@@ -133,12 +141,13 @@ impl<H: Host> Context<'_, H> {
 
     // Checks the rules of an operation at an instruction, in order.
     fn check_operation(&self, site: Site, operation: Operation) -> Result<(), Fault>
-        ensures { result ≡ unless (first (operation_tests (context_of H.means self.now) site operation)) tt }
+        ensures { result
+            ≡ unless (first (operation_tests (context_of H.means self.now) site operation)) tt }
     {
         let a = site.instruction.argument;
         let place = site.place;
         let kind = self.parcel.layout.kind;
-        if self.operand_wrong(operation, a) {
+        if !self.operand_fits(operation, a) {
             return Err(Rule::OperandWrong.at(place));
         }
         if kind == (CodeKind::Block { chain: CLEAN }) && asks_self(operation) {
@@ -152,7 +161,7 @@ impl<H: Host> Context<'_, H> {
         {
             return Err(Rule::ReturnForeign.at(place));
         }
-        if lands_wrong(self.parcel.code, site.next, a, operation.flow()) {
+        if !landing_fits(self.parcel.code, site.next, a, operation.flow()) {
             return Err(Rule::LandingWrong.at(place));
         }
         if operation == Operation::Close && !site.after_block {

@@ -1,19 +1,26 @@
 // The heights stage: the places in the order in which they wait.
 ghost use Rattle.std.specs.Prelude.{◌≡◌, ◌*◌, ◌<◌, ◌≤◌, length};
-ghost use Rattle.stages.specs.Examination.{transfer_of, examined, outcome, greatest};
+ghost use Rattle.parcels.specs.declared.reading.TheConstants.{PAIR_BYTES};
+ghost use Rattle.stages.specs.Examination.{transfer_of, examined, heights_or_fault, greatest_height};
 
-use parcels::{Effect, Operation, Reader};
+use parcels::{Effect, Operation, PAIR_BYTES, Reader};
 use values::{Fault, Rule, Stack};
 
-// What an instruction asks: the working cells that it takes and leaves, and its successors.
+/// The height byte of a pair that no path reaches: no height.
+pub const NO_HEIGHT: u8 = 255;
+
+/// The most pairs that a code has. Lists with so many entries are long enough for every check.
+pub const MAX_PAIRS: usize = 2048;
+
+// What an instruction does to heights: the working cells that it takes and leaves, and its
+// successors.
 #[derive(Clone, Copy)]
 pub struct Transfer {
     pub effect: Effect,
     pub to: [Option<usize>; 2],
 }
 
-// What is asked where nothing can be read. The encoding stage leaves no such place, so that an Option would have
-// the loop below answer for a case that never comes.
+// The transfer where nothing can be read. The encoding stage leaves no such place.
 const NO_TRANSFER: Transfer = Transfer {
     effect: Effect {
         takes: 0,
@@ -22,7 +29,7 @@ const NO_TRANSFER: Transfer = Transfer {
     to: [None, None],
 };
 
-// What the instruction at a place asks.
+// The transfer of the instruction at a place.
 fn transfer_at(code: &[u8], place: usize) -> Transfer
     ensures { result ≡ transfer_of code.now place }
 {
@@ -41,18 +48,19 @@ fn transfer_at(code: &[u8], place: usize) -> Transfer
     }
 }
 
-// The greatest height; 255 is none, in the list of bytes that the caller lends.
+// The greatest height, 0 if there is none.
 pub fn greatest_height(heights: &[u8]) -> u8
-    ensures { result ≡ greatest heights.now }
+    ensures { result ≡ greatest_height heights.now }
 {
     heights
         .iter()
-        .map(|h| if *h == 255 { 0 } else { *h })
+        .map(|h| if *h == NO_HEIGHT { 0 } else { *h })
         .max()
         .unwrap_or(0)
 }
 
-// Examines the places that paths reach, from place 0 on. The heights are then theirs, unless there is a fault.
+// Examines the places that paths reach, from place 0 on. The heights are then theirs, unless there
+// is a fault.
 pub(crate) fn examine(
     code: &[u8],
     limit: u8,
@@ -60,11 +68,11 @@ pub(crate) fn examine(
     waiting: &mut [u16],
 ) -> Result<(), Fault>
     requires some { 0 < length heights.old }
-    requires few { length heights.old ≤ 2048 }
+    requires few { length heights.old ≤ MAX_PAIRS }
     requires even { length heights.old ≡ length waiting.old }
-    requires whole { length code.now ≡ 2 * length heights.old }
-    requires low { limit < 255 }
-    ensures { outcome result heights.new ≡ examined code.now limit heights.old }
+    requires whole { length code.now ≡ PAIR_BYTES * length heights.old }
+    requires low { limit < NO_HEIGHT }
+    ensures { heights_or_fault result heights.new ≡ examined code.now limit heights.old }
 {
     heights[0] = 0;
     waiting[0] = 0;
@@ -78,26 +86,25 @@ pub(crate) fn examine(
             break Ok(());
         };
         let place = newest as usize;
-        let h = heights[place / 2];
-        let demand = transfer_at(code, place);
-        if (h as u16) < demand.effect.takes {
+        let h = heights[place / PAIR_BYTES];
+        let transfer = transfer_at(code, place);
+        if (h as u16) < transfer.effect.takes {
             break Err(Rule::HeightLow.at(place));
         }
-        let after = h as u16 - demand.effect.takes + demand.effect.leaves as u16;
+        let after = h as u16 - transfer.effect.takes + transfer.effect.leaves as u16;
         if after > limit as u16 {
             break Err(Rule::HeightOver.at(place));
         }
         let height = after as u8;
-        // By index, since the invariant speaks of the successors that are left; an adapter such as `flatten` would hide which they are.
-        for to in demand.to {
+        for to in transfer.to {
             if let Some(s) = to {
                 if s >= code.len() {
                     break 'examine Err(Rule::FallsOffEnd.at(place));
                 }
-                if heights[s / 2] == 255 {
-                    heights[s / 2] = height;
+                if heights[s / PAIR_BYTES] == NO_HEIGHT {
+                    heights[s / PAIR_BYTES] = height;
                     stack.push(s as u16).unwrap();
-                } else if heights[s / 2] != height {
+                } else if heights[s / PAIR_BYTES] != height {
                     break 'examine Err(Rule::HeightsDiffer.at(s));
                 }
             }

@@ -1,5 +1,6 @@
 // The encoding stage: the instructions in turn.
 ghost use Rattle.std.specs.Prelude.{◌≡◌, ◌%◌, ◌<◌, false, length, OnOk};
+ghost use Rattle.parcels.specs.declared.reading.TheConstants.{PAIR_BYTES};
 ghost use Rattle.stages.specs.Contexts.{context_of};
 ghost use Rattle.stages.specs.Sweep.{pushes_block, swept, encoding_fault};
 ghost use Rattle.values.specs.Order.{unless};
@@ -7,7 +8,7 @@ ghost use Rattle.values.specs.Order.{unless};
 use crate::contexts::Context;
 use crate::encoding::{Site, is_block};
 use hosts::Host;
-use parcels::{Instruction, Operation, Reader, Source, literal_at};
+use parcels::{Instruction, Operation, PAIR_BYTES, Reader, Source, literal_at};
 use values::{Fault, Rule};
 
 // Whether an instruction pushes a block.
@@ -21,9 +22,11 @@ fn pushes_block(literals: &[u8], instruction: Instruction) -> bool
 }
 
 impl<H: Host> Context<'_, H> {
-    // Checks the rules of the instructions in turn. The reader keeps the place; an iterator would hide it, and a fault carries it.
+    // Checks the rules of the instructions in turn.
     fn sweep(&self) -> Result<(), Fault>
-        ensures { result ≡ unless (swept (context_of H.means self.now) (length self.now.parcel.code.now) false 0) tt }
+        ensures { result
+            ≡ unless
+            (swept (context_of H.means self.now) (length self.now.parcel.code.now) false 0) tt }
     {
         let mut reader = Reader::at(self.parcel.code, 0);
         let mut after_block = false;
@@ -43,14 +46,15 @@ impl<H: Host> Context<'_, H> {
 
     // Checks the rules of the encoding stage, in order.
     pub fn check_encoding(&self) -> Result<(), Fault>
-        ensures whole { OnOk result ((0 < length self.now.parcel.code.now) × (length self.now.parcel.code.now % 2 ≡ 0)) }
+        ensures some { OnOk result (0 < length self.now.parcel.code.now) }
+        ensures whole { OnOk result (length self.now.parcel.code.now % PAIR_BYTES ≡ 0) }
         ensures answer { result ≡ unless (encoding_fault (context_of H.means self.now)) tt }
     {
         let length = self.parcel.code.len();
         if length == 0 {
             return Err(Rule::CodeCut.at(0));
         }
-        if length % 2 == 1 {
+        if length % PAIR_BYTES == 1 {
             return Err(Rule::CodeCut.at(length - 1));
         }
         self.sweep()
