@@ -1,12 +1,12 @@
 -- What the script of an instruction that keeps the rules reads and writes.
-use Rattle.std.proofs.Common.{◌≡◌, ℕ, zero, suc, ◌+◌, ◌-◌, ◌*◌, ◌/◌, ◌%◌, ◌<◌, ◌≤◌, Bool, true, false, cond, ltb, ◌⊎◌, List, length, pos, Some, None, Option, sym, refl, ap, subst, inl, inr, arith}
+use Rattle.std.proofs.Common.{◌≡◌, ℕ, zero, suc, ◌+◌, ◌-◌, ◌*◌, ◌/◌, ◌%◌, ◌<◌, ◌≤◌, Bool, true, false, cond, ltb, ◌⊎◌, List, [], length, pos, Some, None, Option, sym, refl, ap, subst, inl, inr, arith}
 use Rattle.std.specs.Option.{option_map}
 use Rattle.std.proofs.lemmas.Bool.{ltb-false, lt-ltb}
 use Rattle.values.specs.Small.{in_range, small_if}
 use Rattle.values.specs.declared.small.SmallInteger.{SmallInteger}
 use Rattle.values.specs.declared.kinds.Value.{Value}
 use Rattle.values.specs.declared.kinds.Value.TheVariants.{Nil, True, False, Integer}
-use Rattle.hosts.specs.Meaning.{Marks, marks_in, marked}
+use Rattle.hosts.specs.Meaning.{Marks, marks_in, marked, message}
 use Rattle.hosts.specs.declared.rows.Row.{Row}
 use Rattle.hosts.specs.declared.rows.Row.TheVariants.{Variables, Bindings}
 use Rattle.parcels.specs.Literals.{entry, literal, selector_of, binding_of, constant_of}
@@ -24,7 +24,7 @@ use Rattle.parcels.specs.declared.opcodes.Operation.TheVariants.{Send, SendSelec
 use Rattle.parcels.specs.declared.reading.Instruction.{Instruction}
 use Rattle.stages.specs.Encoding.{stores_trusted, names_trusted}
 use Rattle.soundness.specs.Rules.{OperandFits, LandingFits}
-use Rattle.semantics.specs.Scripts.{Access, read_cell, read_cells, write_cell, read_literal, read_row, write_row, send, Leaf, Script, act, given, special, integer, from_source, pushing, sending}
+use Rattle.semantics.specs.Scripts.{Access, read_cell, read_cells, write_cell, read_literal, read_row, write_row, send, Leaf, Script, act, given, special, integer, must_be_boolean, from_source, pushing, sending}
 use Rattle.semantics.specs.Execution.{Everywhere}
 use Rattle.semantics.specs.Steps.{code_context_of, working_base, frame_cells, script_at}
 use Rattle.semantics.specs.Laws.{Counts, row_count, InBounds, Stack, InUse, NotStuck}
@@ -107,7 +107,7 @@ module _ (p : Parts) (q h : ℕ) (i : Instruction) where
           → Permits o (sending (code_context_of p) i next h super n c)
       sends o super n c t need =
           (omega (arith, need), λ r. (omega (arith, need), λ xs. (tt, λ a.
-          replied (Permits o) _ a tt (λ v. (inr (omega (arith, need, t), inl (omega (arith, need))), λ _. tt)))))
+          replied (Permits o) (message super n r xs) a tt (λ v. (inr (omega (arith, need, t), inl (omega (arith, need))), λ _. tt)))))
 
       sourced : (o : Operation) (s : Source) (k : Value → Script)
           → OperandFits p variables i.argument (Push s) → ((v : Value) → Permits o (k v))
@@ -156,7 +156,7 @@ module _ (p : Parts) (q h : ℕ) (i : Instruction) where
       permitted (Branch w) fit lands need =
           there (Permits (Branch w)) _ (landing_of p.code Forward next i.argument) lands.0 lands.1
           (omega (arith, need), λ v. chosen (Permits (Branch w)) v tt tt
-          (tt, λ a. replied (Permits (Branch w)) _ a tt (λ x. tt)))
+          (tt, λ a. replied (Permits (Branch w)) (message false must_be_boolean v []) a tt (λ x. tt)))
       permitted Pop fit lands need = tt
       permitted Duplicate fit lands need = (omega (arith, need), λ v. pushes Duplicate v (omega arith) (omega (arith, need)))
       permitted Close fit lands need =
