@@ -1,17 +1,16 @@
 -- What callers of a step can rely on.
-use Rattle.std.specs.Prelude.{◌≡◌, ℕ, ◌*◌, ◌≤◌, true, false, List, length, Some, None, Ok, Err, IsOkAnd, Option, Result, ◌≢◌, slice_index_or}
+use Rattle.std.specs.Prelude.{◌≡◌, ◌≢◌, ◌↔◌, ℕ, ◌*◌, ◌≤◌, true, false, List, length, Some, None, Ok, Err, IsOkAnd, Option, Result, slice_index_or}
 use Rattle.values.specs.declared.faults.Fault.{Fault}
 use Rattle.values.specs.declared.kinds.Value.{Value}
 use Rattle.values.specs.declared.kinds.Value.TheVariants.{Nil}
 use Rattle.hosts.specs.Meaning.{Meaning, Sent}
 use Rattle.parcels.specs.Reading.{starts_at}
 use Rattle.soundness.specs.Paths.{Path}
-use Rattle.semantics.specs.RunView.{RunView, cells_of, next_script}
-use Rattle.semantics.specs.Scripts.{sent_by}
+use Rattle.semantics.specs.Steps.{RunView, frame_cells}
 use Rattle.semantics.specs.declared.states.State.TheVariants.{Live}
 use Rattle.semantics.specs.declared.states.Stop.{Stop}
 use Rattle.semantics.specs.declared.states.Stop.TheVariants.{NotUnderstood, NoBlock}
-use Rattle.safety.specs.Histories.{Runs, Holds, Iff, History, MeetsNoBlock}
+use Rattle.safety.specs.Histories.{HeldRuns, Holds, History, Sends, MeetsNoBlock}
 use Rattle.callers.specs.declared.relying.Seen.{Seen}
 
 -- the height of place 0 by a verdict: 0 where the parcel is accepted
@@ -19,7 +18,8 @@ abbrev pub height_of_start : Result ℕ Fault → Option ℕ
 height_of_start (Ok top) = Some 0
 height_of_start (Err f) = None
 
--- what a caller sees of a live run is the only height of the paths to its place, where an instruction starts; it sees nothing of another
+-- what a caller sees of a live run is the only height of the paths to its place, where an
+-- instruction starts; it sees nothing of another
 abbrev pub SeenRight : RunView → Option Seen → Type 0
 SeenRight run None = run.state ≢ Live
 SeenRight run (Some x) =
@@ -30,17 +30,24 @@ SeenRight run (Some x) =
 module _ {S : Type 0} (means : S → Meaning) (may : S → Sent → Value → S → Type 0) where
   -- some list of calls led to the host s and the run
   abbrev pub Reached : S → RunView → Type 0
-  Reached s run = (s₀ : S) × (rs : Runs) × (k : ℕ) × History means may s₀ s rs × Holds rs k run
+  Reached s run = (s₀ : S) × (rs : HeldRuns) × (k : ℕ) × History means may s₀ s rs × Holds rs k run
 
   -- the cells behind those that the run counts are as before
   abbrev pub TotalsStay : S → RunView → List Value → List Value → Type 0
-  TotalsStay s run f f' = Reached s run → (n : ℕ) → cells_of run.parts ≤ n → slice_index_or f' n Nil ≡ slice_index_or f n Nil
+  TotalsStay s run f f' =
+      Reached s run → (n : ℕ) → frame_cells run.parts ≤ n
+      → slice_index_or f' n Nil ≡ slice_index_or f n Nil
 
   -- a stop is made for its reason alone, and whenever there is the reason
   pub record MadeFor (s : S) (run : RunView) (f : List Value) (made : Option Stop) : Type 0 where
-    pub not_understood : (n : ℕ) → Iff (made ≡ Some (NotUnderstood n)) ((x : Sent) × (sent_by run.parts.literals (next_script run) f (means s) ≡ Some x) × ((means s).understands x ≡ false) × (x.selector ≡ n))
-    pub no_block : Iff (made ≡ Some NoBlock) (MeetsNoBlock run f)
+    pub not_understood : (n : ℕ)
+        → (made ≡ Some (NotUnderstood n))
+        ↔ ((m : Sent) × Sends run f m × ((means s).understands m ≡ false) × (m.selector ≡ n))
+    pub no_block : (made ≡ Some NoBlock) ↔ MeetsNoBlock run f
 
-  -- a live run with a frame that is long enough is not refused, and the stop that is answered, if any, is the one that there is reason for
+  -- a live run with a frame that is long enough is not refused, and the stop that is answered, if
+  -- any, is the one that there is reason for
   abbrev pub Explained : S → RunView → List Value → Result (Option Stop) Fault → Type 0
-  Explained s run f r = Reached s run → run.state ≡ Live → cells_of run.parts ≤ length f → IsOkAnd r (MadeFor s run f)
+  Explained s run f r =
+      Reached s run → run.state ≡ Live → frame_cells run.parts ≤ length f
+      → IsOkAnd r (MadeFor s run f)

@@ -1,6 +1,6 @@
 // What a caller can rely on, by the contract of a step alone.
 ghost use Rattle.std.specs.Prelude.{◌≡◌, length};
-ghost use Rattle.semantics.specs.RunView.{Answer, Steps};
+ghost use Rattle.semantics.specs.Steps.{CallAnswer, Step};
 ghost use Rattle.engine.specs.View.{view};
 ghost use Rattle.callers.specs.Relying.{Reached, TotalsStay, Explained, SeenRight};
 
@@ -9,28 +9,29 @@ use hosts::Host;
 use semantics::{State, Stop};
 use values::{Fault, Value};
 
-// The pair of bytes at a run's place, and the run's height there.
+/// The pair of bytes at a run's place, and the run's height there.
 #[derive(Clone, Copy)]
 pub struct Seen {
     pub pair: usize,
     pub height: usize,
 }
 
-// Steps a run in a frame that is the first part of a sheet: behind the cells that the run counts the caller keeps totals.
+/// Steps a run in a frame that is the first part of a sheet: behind the cells that the run counts
+/// the caller keeps totals. It is refused as a step is.
 pub fn step_beside_totals<H: Host>(
     run: &mut Run,
     host: &mut H,
     sheet: &mut [Value],
 ) -> Result<(), Fault>
-    ensures steps { Steps H.means H.may (view run.old) host.old sheet.old result (view run.new) host.new sheet.new }
+    ensures steps { Step H.means H.may (view run.old) sheet.old host.old result (view run.new) sheet.new host.new }
     ensures totals { TotalsStay H.means H.may host.old (view run.old) sheet.old sheet.new }
 {
     run.step(host, sheet)
 }
 
-// Steps a run and says where it is then, if it is live.
+/// Steps a run and says where it is then, if it is live.
 pub fn step_and_look<H: Host>(run: &mut Run, host: &mut H, frame: &mut [Value]) -> Option<Seen>
-    ensures stepped { (a : Answer) × Steps H.means H.may (view run.old) host.old frame.old a (view run.new) host.new frame.new }
+    ensures stepped { (a : CallAnswer) × Step H.means H.may (view run.old) frame.old host.old a (view run.new) frame.new host.new }
     ensures seen { Reached H.means H.may host.old (view run.old) → SeenRight (view run.new) result }
 {
     let _ = run.step(host, frame);
@@ -43,7 +44,7 @@ pub fn step_and_look<H: Host>(run: &mut Run, host: &mut H, frame: &mut [Value]) 
     })
 }
 
-// Steps a run and says which stop it made, if it made one.
+/// Steps a run and says which stop it made, if it made one. It is refused as a step is.
 pub fn step_explained<H: Host>(
     run: &mut Run,
     host: &mut H,

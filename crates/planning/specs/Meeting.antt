@@ -1,7 +1,7 @@
 -- What a step is about to meet.
 use Rattle.std.specs.Prelude.{ℕ, Some, None, Ok, Err, Option}
 use Rattle.parcels.specs.Reading.{Reading, read_at}
-use Rattle.semantics.specs.RunView.{RunView}
+use Rattle.semantics.specs.Steps.{RunView}
 use Rattle.planning.specs.declared.texts.StepText.{StepText}
 
 -- step n of a run by what is read at its place

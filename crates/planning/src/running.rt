@@ -1,11 +1,10 @@
 // One parcel on a host: the check, the opening, and steps up to a budget.
-ghost use Rattle.std.specs.Prelude.{◌≡◌, replicate, IfOk, OnOk};
+ghost use Rattle.std.specs.Prelude.{◌≡◌, IfOk, OnOk};
 ghost use Rattle.engine.specs.View.{view};
 ghost use Rattle.planning.specs.Frames.{cells_in, frame_of};
 ghost use Rattle.planning.specs.Keeping.{StaysWithin, Going, LeadsOn, Followed, Played};
-ghost use Rattle.safety.specs.Opening.{opened, empty};
 ghost use Rattle.planning.specs.Meeting.{next_text};
-ghost use Rattle.planning.specs.Turns.{Handled};
+ghost use Rattle.planning.specs.Turns.{opened_under, Handled};
 ghost use Rattle.parcels.specs.Parts.{parts_of};
 
 use crate::options::Plan;
@@ -15,6 +14,7 @@ use hosts::Host;
 use listing::verdict_of;
 use parcels::Parcel;
 use semantics::State;
+use stages::MAX_PAIRS;
 use std::alloc::{AllocError, Global};
 use std::io;
 use values::Value;
@@ -98,10 +98,10 @@ fn play<H: Host>(
     frame: &mut [Value],
 ) -> io::Result<Outcome>
     ensures within { StaysWithin plan.now (H.means host.old) (H.means host.new) }
-    ensures outcome { IfOk result (λ o. Played H.means H.may (opened (H.means host.old) plan.now.trusted bytes.now plan.now.arguments.items frame.old (replicate 2048 0) (replicate 2048 0) empty) plan.now.steps host.old o host.new frame.new) }
+    ensures outcome { IfOk result (λ o. Played H.means H.may (opened_under plan.now (H.means host.old) bytes.now frame.old) plan.now.steps host.old o host.new frame.new) }
 {
-    let mut heights = [0u8; 2048];
-    let mut waiting = [0u16; 2048];
+    let mut heights = [0u8; MAX_PAIRS];
+    let mut waiting = [0u16; MAX_PAIRS];
     let mut run = Run::empty();
     if let Err(fault) = run.open(
         host,

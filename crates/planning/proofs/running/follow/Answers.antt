@@ -1,5 +1,5 @@
 use Rattle.std.proofs.Common.{sym, ◌∙◌, subst}
-use Rattle.semantics.specs.RunView.{Answer, Steps}
+use Rattle.semantics.specs.Steps.{CallAnswer, Step}
 use Rattle.engine.specs.View.{view}
 use Rattle.planning.specs.Keeping.{none, more}
 use Rattle.planning.proofs.Leading.{stepped, unrefused, goes_further}
@@ -25,5 +25,5 @@ loop-k-preserved g c =
       (λ t s₀ led. stepped g.H.Host.means g.H.Host.may run run' s s' f f' c.step.result st t s₀ (c.loop-k.invariant.0 t s₀ led)),
       goes_further g.H.Host.means g.H.Host.may run run' s s' f f' c.step.result c.step.auto.frame c.loop-k.invariant.1 st,
       more c.loop-k.invariant.2 (sym c.state.ensures ∙ c.in-Live.is)
-          (subst (λ (a : Answer). Steps g.H.Host.means g.H.Host.may run s f a run' s' f') c.unwrap.ensures st),
+          (subst (λ (a : CallAnswer). Step g.H.Host.means g.H.Host.may run f s a run' f' s') c.unwrap.ensures st),
     )
