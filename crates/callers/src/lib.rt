@@ -1,4 +1,5 @@
-// Callers that rely on what the contract of a check and of a step promises, part by part, and on nothing else.
+// Callers that rely on what the contract of a check and of a step promises, part by part, and on
+// nothing else.
 #![tactic(auto)]
 
 mod judging;

@@ -63,7 +63,8 @@ impl<'a> Run<'a> {
         }
     }
 
-    // Begins a run of a parcel that is accepted, unless the argument count differs or the frame is too short.
+    // Begins a run of a parcel that is accepted, unless the argument count differs or the frame is
+    // too short.
     fn begin<H: Host>(
         &mut self,
         host: &H,

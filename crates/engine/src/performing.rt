@@ -183,8 +183,8 @@ impl Decoded<'_> {
         value
     }
 
-    // The value of a source. That the host has the variable or the binding is known where the counts
-    // are compared.
+    // The value of a source. That the host has the variable or the binding is known where the
+    // counts are compared.
     fn value_from<H: Host>(&self, source: Source, host: &H, frame: &[Value]) -> Value
         requires is { self.now.operation ≡ Push source }
         requires long { Long (parts self.now.parcel) (length frame.now) }

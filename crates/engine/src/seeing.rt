@@ -15,8 +15,8 @@ impl Run<'_> {
         self.state
     }
 
-    /// The place, in bytes of the code, of the next instruction, or of the one that ended or stopped
-    /// the run.
+    /// The place, in bytes of the code, of the next instruction, or of the one that ended or
+    /// stopped the run.
     pub fn place(&self) -> usize
         ensures { result ≡ (view self.now).place }
     {

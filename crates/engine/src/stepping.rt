@@ -74,8 +74,9 @@ impl<'a> Run<'a> {
         Ok(())
     }
 
-    // Performs the next instruction of a live run, and refuses a run that is not live: the run's own
-    // state and the operation are read together, in one match that the compiler sees to be whole.
+    // Performs the next instruction of a live run, and refuses a run that is not live: the run's
+    // own state and the operation are read together, in one match that the compiler sees to be
+    // whole.
     fn perform<H: Host>(
         &mut self,
         next: Option<(Operation, Decoded)>,

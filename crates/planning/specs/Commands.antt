@@ -13,7 +13,8 @@ use Rattle.planning.specs.declared.options.Word.TheVariants.{Path}
 abbrev pub texts_of : {Z : Type 0} → List (String Z) → List (List ℕ)
 texts_of ss = map string_bytes ss
 
--- the words ask for a trace or not, for trust or not, for so many steps, and for arguments and paths in order
+-- the words ask for a trace or not, for trust or not, for so many steps, and for arguments and
+-- paths in order
 pub data Asks : List (List ℕ) → Bool → Bool → ℕ → List Value → List (List ℕ) → Type 0 where
   none : Asks [] false false 1000000 [] []
   trace : {ws ps : List (List ℕ)} {t u : Bool} {n : ℕ} {vs : List Value} → Asks ws t u n vs ps → Asks (ws ++ (codes "--trace" ∷ [])) true u n vs ps

@@ -42,7 +42,8 @@ module _ {S : Type 0} (means : S → Meaning) (may : S → Sent → Value → S 
     pub led : Led trusted began s run
     pub long : frame_cells run.parts ≤ length f
 
-  -- so many steps, each of a live run and none refused, lead from one host, run and frame to another
+  -- so many steps, each of a live run and none refused, lead from one host, run and frame to
+  -- another
   pub data Stepped (s₀ : S) (run₀ : RunView) (f₀ : List Value)
       : ℕ → S → RunView → List Value → Type 0 where
     none : Stepped s₀ run₀ f₀ 0 s₀ run₀ f₀

@@ -31,7 +31,8 @@ pub struct Options {
     pub parcels: Vec<String>,
 }
 
-// What a word of the command line is. Two of the options await a number, which is for the next word.
+// What a word of the command line is. Two of the options await a number, which is for the next
+// word.
 #[derive(Clone, Copy)]
 enum Word {
     Trace,
@@ -58,7 +59,8 @@ impl From<&str> for Word {
     }
 }
 
-// An option whose number the next word is. It is printed as the beginning of what is wrong with that word.
+// An option whose number the next word is. It is printed as the beginning of what is wrong with
+// that word.
 #[derive(Clone, Copy)]
 enum Awaited {
     Steps,

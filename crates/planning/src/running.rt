@@ -67,7 +67,8 @@ fn ran_for(run: &Run, steps: u64) -> Ran
     }
 }
 
-// Steps a run until it is live no more or the budget is spent. No step is refused. The answer says how many were made.
+// Steps a run until it is live no more or the budget is spent. No step is refused. The answer says
+// how many were made.
 fn follow<H: Host>(
     rt: &impl Print,
     plan: &Plan,
@@ -89,7 +90,8 @@ fn follow<H: Host>(
     Ok(ran_for(run, plan.steps))
 }
 
-// Opens a parcel and steps it. The lists have an entry for every pair that a code can have, and lie on the stack: an opening asks for no memory.
+// Opens a parcel and steps it. The lists have an entry for every pair that a code can have, and lie
+// on the stack: an opening asks for no memory.
 fn play<H: Host>(
     rt: &impl Print,
     plan: &Plan,
@@ -118,7 +120,8 @@ fn play<H: Host>(
     Ok(Outcome(Ok(ran)))
 }
 
-// Checks a parcel on a host, and opens and steps it where it is accepted. The lines of both are printed under its path.
+// Checks a parcel on a host, and opens and steps it where it is accepted. The lines of both are
+// printed under its path.
 pub fn run_parcel<H: Host>(
     rt: &(impl Print + AllocGlobal),
     plan: &Plan,

@@ -8,7 +8,8 @@ use semantics::{State, Stop};
 use std::fmt;
 use values::{Fault, Value};
 
-// A step that is about to be made: its number, from 1, and what it meets, with the opcode as the byte that it is.
+// A step that is about to be made: its number, from 1, and what it meets, with the opcode as the
+// byte that it is.
 #[derive(Clone, Copy)]
 pub struct StepText {
     pub number: u64,

@@ -99,10 +99,10 @@ path_low code limit kh start = omega arith
 path_low code limit kh (extend path t n m) = kh.within path t
 
 -- the script of what stands at a place
-pub script_is : {p : Parts} {place height : ℕ} {i : Instruction} {o : Operation}
+pub script_is : (p : Parts) (place height : ℕ) {i : Instruction} {o : Operation}
     → InstructionAt p.code place i o
     → script_read p place height (read_at p.code place) ≡ script_at p place height i o
-script_is {p} {place} {height} {i} {o} s =
+script_is p place height {i} {o} s =
     ap (script_read p place height) s.read ∙ ap (script_for p place height i) s.known
 
 module _ {p : Parts} {variables bindings place height : ℕ} (r : Ready p variables bindings place height) where

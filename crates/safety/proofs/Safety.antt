@@ -99,8 +99,8 @@ after_opening q args f run = by (checked q).verdict refl
 module _ {S : Type 0} (means : S → Meaning) (may : S → Sent → Value → S → Type 0)
     (lawful : (s t : S) (m : Sent) (v : Value) → may s m v t → Kept (means s) (means t)) where
   -- the live runs that are held came from acceptances, of untrusted parcels if u
-  Runs : (u : Type 0) → Marks → HeldRuns → Type 0
-  Runs u m rs =
+  abbrev AllSound : (u : Type 0) → Marks → HeldRuns → Type 0
+  AllSound u m rs =
       (k : ℕ) (run : RunView) → Holds rs k run → run.state ≡ Live
       → (t : Bool) × (u → t ≡ false) × Sound m t run
 
@@ -108,7 +108,7 @@ module _ {S : Type 0} (means : S → Meaning) (may : S → Sent → Value → S 
   -- if u, that every parcel was untrusted, the trusted cells
   record KeptUp (u : Type 0) (s₀ s : S) (rs : HeldRuns) : Type 0 where
     same : Like (means s₀) (means s)
-    runs : Runs u (marks_of (means s₀)) rs
+    runs : AllSound u (marks_of (means s₀)) rs
     cells : u → Kept (means s₀) (means s)
 
   -- one call keeps it up
@@ -122,31 +122,25 @@ module _ {S : Type 0} (means : S → Meaning) (may : S → Sent → Value → S 
     ];
     cells = λ u. x.cells u.1;
   }
-  kept_up_by {s₀} {s} {s'} {rs} {rs'} {u} (opens k run at t b hs ws args f) x = record {
+  kept_up_by {s₀} {s} {rs = rs} {u = u} (opens k run at t b hs ws args f) x = record {
     same = x.same;
-    runs = λ j r e l. elim (after_set rs k run (Some new_run) j r at e) [
-      | inl p ↦ changed r (same_Some _ _ p.1) l (after_opening q args f run)
+    runs = λ j r e l. elim (after_set rs k run (Some (opened (question_on (means s) t b hs ws) args f run).run) j r at e) [
+      | inl p ↦ changed r (same_Some _ _ p.1) l (after_opening (question_on (means s) t b hs ws) args f run)
       | inr p ↦ (let y = x.runs j r p l in (y.0, (λ v. y.1 v.1), y.2))
     ];
     cells = λ v. x.cells v.1;
   }
     where
-      abbrev q : Question
-      q = question_on (means s) t b hs ws
-
-      abbrev new_run : RunView
-      new_run = (opened q args f run).run
-
-      changed : (r : RunView) → new_run ≡ r → r.state ≡ Live → AfterOpening q run (opened q args f run)
-          → (v : Bool) × (OpensUntrusted means may (opens {rs = rs} k run at t b hs ws args f) × u → v ≡ false)
+      changed : (r : RunView) → (opened (question_on (means s) t b hs ws) args f run).run ≡ r → r.state ≡ Live → AfterOpening (question_on (means s) t b hs ws) run (opened (question_on (means s) t b hs ws) args f run)
+          → (v : Bool) × (OpensUntrusted means may (opens {s = s} {rs = rs} k run at t b hs ws args f) × u → v ≡ false)
           × Sound (marks_of (means s₀)) v r
       changed r e l (stays p) =
           let y = x.runs k run at (ap (λ (z : RunView). z.state) (sym p ∙ e) ∙ l) in
           (y.0, (λ v. y.1 v.1), subst (λ (z : RunView). Sound (marks_of (means s₀)) y.0 z) (sym p ∙ e) y.2)
       changed r e l (begins ok sound) =
           (t, (λ v. v.0 ok), subst (λ (z : RunView). Sound (marks_of (means s₀)) t z) e
-          (subst (λ (n : Marks). Sound n t new_run) x.same.marks sound))
-  kept_up_by {s₀} {s} {s'} {rs} {rs'} {u} (steps k run run' at s' f f' a st) x = by (first (step_tests run f (means s))) refl
+          (subst (λ (n : Marks). Sound n t (opened (question_on (means s) t b hs ws) args f run).run) x.same.marks sound))
+  kept_up_by {s₀} {s} {rs = rs} {u = u} (steps k run run' at s' f f' a st) x = by (first (step_tests run f (means s))) refl
     where
       by : (o : Option Fault) → first (step_tests run f (means s)) ≡ o → KeptUp (Unit {0} × u) s₀ s' (set rs k (Some run'))
       by (Some y) e =
@@ -195,19 +189,22 @@ module _ {S : Type 0} (means : S → Meaning) (may : S → Sent → Value → S 
   }
   kept_up (called past call) = kept_up_by call (kept_up past)
 
-  pub every_history_is_safe : EveryHistoryIsSafe means may
-  every_history_is_safe s₀ s rs past = record {
+  safe_by : {s₀ s : S} {rs : HeldRuns} (past : History means may s₀ s rs)
+      → KeptUp (Untrusted means may past) s₀ s rs → Safe means may s₀ s rs past
+  safe_by {s₀} {s} past x = record {
     well_placed = λ k run e l. placed (x.runs k run e l).2;
     progress = λ k run e l f f' a run' s' c st.
         let sound = (x.runs k run e l).2 in
-        let v : length (means s).variables ≡ run.variable_count = marks_length (means s).variables ∙ ap (λ (n : Marks). length n.variables) x.same.marks ∙ sym sound.variables in
-        let b : length (means s).bindings ≡ run.binding_count = marks_length (means s).bindings ∙ ap (λ (n : Marks). length n.bindings) x.same.marks ∙ sym sound.bindings in
-        progress means may run (marks_of (means s₀)) _ sound f s a run' f' s'
+        let v : length (means s).variables ≡ run.variable_count =
+        marks_length (means s).variables ∙ ap (λ (n : Marks). length n.variables) x.same.marks ∙ sym sound.variables in
+        let b : length (means s).bindings ≡ run.binding_count =
+        marks_length (means s).bindings ∙ ap (λ (n : Marks). length n.bindings) x.same.marks ∙ sym sound.bindings in
+        progress means may run (marks_of (means s₀)) (x.runs k run e l).0 sound f s a run' f' s'
         (made means may run f s a run' f' s' (none_applies run f (means s) l v b c) st) l;
     trusted = λ u row i e.
         open_trusted (row_of (means s₀) row) (row_of (means s) row) i ((x.cells u).cells row)
         (subst (λ (n : List Bool). marked n i ≡ true) (row_marks (means s₀) row) e);
   }
-    where
-      abbrev x : KeptUp (Untrusted means may past) s₀ s rs
-      x = kept_up past
+
+  pub every_history_is_safe : EveryHistoryIsSafe means may
+  every_history_is_safe s₀ s rs past = safe_by past (kept_up past)

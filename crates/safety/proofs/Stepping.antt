@@ -21,13 +21,12 @@ use Rattle.parcels.specs.declared.opcodes.Direction.TheVariants.{Forward}
 use Rattle.parcels.specs.declared.opcodes.Operation.{Operation}
 use Rattle.parcels.specs.declared.opcodes.Operation.TheVariants.{Send, SendSelector, Push, Store, Jump, Branch, Pop, Duplicate, Close, End, Line}
 use Rattle.parcels.specs.declared.reading.Instruction.{Instruction}
-use Rattle.stages.specs.Encoding.{stores_trusted}
+use Rattle.stages.specs.Encoding.{context, stores_trusted}
 use Rattle.stages.specs.Check.{Question, question_on, checked}
 use Rattle.stages.proofs.Trust.{marks_length}
 use Rattle.soundness.specs.Rules.{OperandFits, ValidInstruction}
 use Rattle.soundness.specs.Verdicts.{parcel, IsValid}
 use Rattle.soundness.proofs.Orders.{first_none, same_read}
-use Rattle.soundness.proofs.Verdict.{every_verdict_means}
 use Rattle.semantics.specs.Scripts.{Access, write_cell, write_row, Script, act, read_cell, read_literal, given, sending, branching, must_be_boolean, Leaf, comes_to, Outcome, continues, ends, stops}
 use Rattle.semantics.specs.Execution.{Exec, Everywhere}
 use Rattle.semantics.specs.Steps.{RunView, CallAnswer, moved, StepUnless, Step, step_tests, has_counts, is_live, frame_cells, working_base, code_context_of, script_at, next_script}
@@ -40,7 +39,7 @@ use Rattle.semantics.proofs.Executing.{everywhere_leaf, everywhere_map, unwritte
 use Rattle.semantics.proofs.Operations.{Lands, MayStop, leads_to, script_laws}
 use Rattle.semantics.proofs.Telling.{Continues, send_told, branch_told, close_told}
 use Rattle.safety.specs.Opening.{Opened, open_tests, opened_unless, opened_by, opened, empty}
-use Rattle.safety.specs.Ready.{Ready}
+use Rattle.safety.specs.Ready.{unmarked, Ready}
 use Rattle.safety.specs.Histories.{HeldRuns, Holds, counts_of, stack_of, top_of, message_on, Sends, short, selector, branch, MeetsNoBlock, WellPlaced, Progress, Call, takes, opens, steps, collects, History, new, called, OpensUntrusted, Untrusted, Safe, EveryHistoryIsSafe}
 use Rattle.safety.proofs.Permitting.{Permits, stack_at, all_in_use, all_in_bounds, all_open}
 use Rattle.safety.proofs.Readiness.{accepted_ready, accepted_open, path_starts, path_low, script_is, here, operand, need, next_permitted, ready_on}
@@ -63,12 +62,24 @@ same_at {code} {p} {i} {j} s t =
     let e = same_read code p i j s.rest t.rest s.read t.read in
     (e, same_Some _ _ (sym s.known ∙ ap (λ (k : Instruction). operation_of k.opcode) e ∙ t.known))
 
+-- the working cells that its next step reads and writes are in use
+used : {m : Marks} {t : Bool} {run : RunView} (s : Sound m t run)
+    → Everywhere run.parts.literals
+      (InUse (stack_of run (here s.ready).instruction (here s.ready).operation)) NotStuck (next_script run)
+used {run = run} s =
+    let k = here s.ready in
+    subst
+    (λ (c : Script). Everywhere run.parts.literals (InUse (stack_of run k.instruction k.operation)) NotStuck c)
+    (sym (script_is run.parts run.place run.height k.stands))
+    (all_in_use run.parts run.place run.height k.instruction run.variable_count run.binding_count
+    k.operation _ (next_permitted s.ready))
+
 -- where it is placed
-placed : {m : Marks} {t : Bool} {run : RunView} → Sound m t run → WellPlaced run
+pub placed : {m : Marks} {t : Bool} {run : RunView} → Sound m t run → WellPlaced run
 placed {run = run} s =
     let r = s.ready in
     let k = here r in
-    let same = sym (script_is {height = run.height} k.stands) in
+    let same = sym (script_is run.parts run.place run.height k.stands) in
     let low = path_low run.parts.code (limit_of run.parts.layout) r.heights r.path in
     let room = r.heights.within r.path k.stands in
     record {
@@ -80,11 +91,9 @@ placed {run = run} s =
       only = λ h path. r.heights.one path r.path;
       need = need r;
       within =
-          subst (λ (c : Script). Everywhere run.parts.literals _ NotStuck c) same
+          subst (λ (c : Script). Within run.parts.literals (counts_of run) c) same
           (all_in_bounds run.parts run.place run.height k.instruction run.variable_count run.binding_count r.fits low k.operation room _ (next_permitted r));
-      in_use =
-          subst (λ (c : Script). Everywhere run.parts.literals (InUse (stack_of run k.instruction k.operation)) NotStuck c) same
-          (all_in_use run.parts run.place run.height k.instruction run.variable_count run.binding_count k.operation _ (next_permitted r));
+      in_use = used s;
     }
 
 module _ {S : Type 0} (means : S → Meaning) (may : S → Sent → Value → S → Type 0) where
@@ -107,14 +116,14 @@ module _ {S : Type 0} (means : S → Meaning) (may : S → Sent → Value → S 
   module _ (run : RunView) (m : Marks) (t : Bool) (sound : Sound m t run)
       (f : List Value) (s : S) (a : CallAnswer) (run' : RunView) (f' : List Value) (s' : S)
       (st : Made run f s a run' f' s') where
-    abbrev k : ValidInstruction _ _
+    abbrev k : ValidInstruction (context run.parts (unmarked run.variable_count run.binding_count) true) run.place
     k = here sound.ready
 
     -- what may come of the script of what stands at the run's place
     came_of : {i : Instruction} {o : Operation} → InstructionAt run.parts.code run.place i o
         → Exec run.parts.literals means may (script_at run.parts run.place run.height i o) f s st.outcome f' s'
     came_of x =
-        subst (λ (c : Script). Exec run.parts.literals means may c f s st.outcome f' s') (script_is x) st.came
+        subst (λ (c : Script). Exec run.parts.literals means may c f s st.outcome f' s') (script_is run.parts run.place run.height x) st.came
 
     lands : Lands run.parts run.place run.height k.instruction k.operation (comes_to st.outcome)
     lands =
@@ -179,12 +188,12 @@ module _ {S : Type 0} (means : S → Meaning) (may : S → Sent → Value → S 
             → OperandFits run.parts run.variable_count k.instruction.argument o
             → Exec run.parts.literals means may (script_at run.parts run.place run.height k.instruction o) f s st.outcome f' s'
             → MayStop o (NotUnderstood n) → Unknown n
-        by Send at fit x y = elim (send_told run.parts.literals means may _ k.instruction _ run.height f s st.outcome f' s' false k.instruction.opcode (arity_of k.instruction.opcode) x) [
+        by Send at fit x y = elim (send_told run.parts.literals means may (code_context_of run.parts) k.instruction (run.place + 2 * k.instruction.pairs) run.height f s st.outcome f' s' false k.instruction.opcode (arity_of k.instruction.opcode) x) [
           | inl z ↦ absurd (goes_no_further e z.1)
           | inr z ↦ (_, short at, z.0, same_selector z.1 e)
         ]
         by (SendSelector w) at fit x y =
-            elim (send_told run.parts.literals means may _ k.instruction _ run.height f s st.outcome f' s' w fit.0 (k.instruction.argument % 256)
+            elim (send_told run.parts.literals means may (code_context_of run.parts) k.instruction (run.place + 2 * k.instruction.pairs) run.height f s st.outcome f' s' w fit.0 (k.instruction.argument % 256)
             (subst (λ (l : Option Literal). Exec run.parts.literals means may (given (selector_of l) (λ n. sending (code_context_of run.parts) k.instruction (run.place + 2 * k.instruction.pairs) run.height w n (k.instruction.argument % 256))) f s st.outcome f' s') fit.1 x)) [
               | inl z ↦ absurd (goes_no_further e z.1)
               | inr z ↦ (_, selector at fit.1, z.0, same_selector z.1 e)
@@ -195,7 +204,7 @@ module _ {S : Type 0} (means : S → Meaning) (may : S → Sent → Value → S 
                 → Exec run.parts.literals means may (given l (λ r. act (read_cell (working_base run.parts + (run.height - 1))) (branching (code_context_of run.parts) k.instruction (run.place + 2 * k.instruction.pairs) run.height w r))) f s st.outcome f' s'
                 → Unknown n
             on None x = absurd x
-            on (Some r) x = elim (branch_told run.parts.literals means may _ k.instruction _ run.height f s st.outcome f' s' w r (top_of run f) x) [
+            on (Some r) x = elim (branch_told run.parts.literals means may (code_context_of run.parts) k.instruction (run.place + 2 * k.instruction.pairs) run.height f s st.outcome f' s' w r (top_of run f) x) [
               | inl z ↦ absurd (goes_no_further e z.1)
               | inr z ↦ elim z.2 [
                 | inl u ↦ absurd (goes_no_further e u.1)
@@ -209,23 +218,23 @@ module _ {S : Type 0} (means : S → Meaning) (may : S → Sent → Value → S 
     contrary e d = let z = sym e ∙ d in absurd cc
 
     told : (x : Sent) → Sends run f x → (means s).understands x ≡ false → st.outcome ≡ stops (NotUnderstood x.selector)
-    told _ (short {i} at) u = elim (send_told run.parts.literals means may _ i _ run.height f s st.outcome f' s' false i.opcode (arity_of i.opcode) (came_of at)) [
+    told _ (short {i} at) u = elim (send_told run.parts.literals means may (code_context_of run.parts) i (run.place + 2 * i.pairs) run.height f s st.outcome f' s' false i.opcode (arity_of i.opcode) (came_of at)) [
       | inl z ↦ absurd (contrary z.0 u)
       | inr z ↦ z.1
     ]
-    told _ (selector {i} {w} {n} at l) u =
-        elim (send_told run.parts.literals means may _ i _ run.height f s st.outcome f' s' w n (i.argument % 256)
+    told _ (selector {i} {super = w} {n} at l) u =
+        elim (send_told run.parts.literals means may (code_context_of run.parts) i (run.place + 2 * i.pairs) run.height f s st.outcome f' s' w n (i.argument % 256)
         (subst (λ (l : Option Literal). Exec run.parts.literals means may (given (selector_of l) (λ n. sending (code_context_of run.parts) i (run.place + 2 * i.pairs) run.height w n (i.argument % 256))) f s st.outcome f' s') l (came_of at))) [
           | inl z ↦ absurd (contrary z.0 u)
           | inr z ↦ z.1
         ]
-    told _ (branch {i} {w} at not_true not_false) u = on (landing_of run.parts.code Forward (run.place + 2 * i.pairs) i.argument) (came_of at)
+    told _ (branch {i} {when = w} at not_true not_false) u = on (landing_of run.parts.code Forward (run.place + 2 * i.pairs) i.argument) (came_of at)
       where
         on : (l : Option ℕ)
             → Exec run.parts.literals means may (given l (λ r. act (read_cell (working_base run.parts + (run.height - 1))) (branching (code_context_of run.parts) i (run.place + 2 * i.pairs) run.height w r))) f s st.outcome f' s'
             → st.outcome ≡ stops (NotUnderstood must_be_boolean)
         on None x = absurd x
-        on (Some r) x = elim (branch_told run.parts.literals means may _ i _ run.height f s st.outcome f' s' w r (top_of run f) x) [
+        on (Some r) x = elim (branch_told run.parts.literals means may (code_context_of run.parts) i (run.place + 2 * i.pairs) run.height f s st.outcome f' s' w r (top_of run f) x) [
           | inl z ↦ elim z.0 [ | inl y ↦ absurd (not_true y) | inr y ↦ absurd (not_false y) ]
           | inr z ↦ elim z.2 [ | inl y ↦ absurd (contrary y.0 u) | inr y ↦ y.1 ]
         ]
@@ -239,14 +248,14 @@ module _ {S : Type 0} (means : S → Meaning) (may : S → Sent → Value → S 
         by : (o : Operation) → InstructionAt run.parts.code run.place k.instruction o
             → Exec run.parts.literals means may (script_at run.parts run.place run.height k.instruction o) f s st.outcome f' s'
             → MayStop o NoBlock → MeetsNoBlock run f
-        by Close at x y = elim (close_told run.parts.literals means may _ k.instruction _ run.height f s st.outcome f' s' (top_of run f) _ x) [
+        by Close at x y = elim (close_told run.parts.literals means may (code_context_of run.parts) k.instruction (run.place + 2 * k.instruction.pairs) run.height f s st.outcome f' s' (top_of run f) _ x) [
           | inl z ↦ absurd (goes_no_further e z.2)
           | inr z ↦ record { instruction = k.instruction; closes = at; none = z.0 }
         ]
         by o at x y = absurd y
 
     lacking : MeetsNoBlock run f → st.outcome ≡ stops NoBlock
-    lacking x = elim (close_told run.parts.literals means may _ x.instruction _ run.height f s st.outcome f' s' (top_of run f) _ (came_of x.closes)) [
+    lacking x = elim (close_told run.parts.literals means may (code_context_of run.parts) x.instruction (run.place + 2 * x.instruction.pairs) run.height f s st.outcome f' s' (top_of run f) _ (came_of x.closes)) [
       | inl z ↦ absurd (x.none z.0 z.1)
       | inr z ↦ z.1
     ]
@@ -265,13 +274,13 @@ module _ {S : Type 0} (means : S → Meaning) (may : S → Sent → Value → S 
         → (j : ℕ) → working_base run.parts ≤ j
         → j < working_base run.parts + (run.height - (effect_of o i).takes)
         → get_or f' j Nil ≡ get_or f j Nil
-    kept_below at j low high =
+    kept_below {i} {o} at j low high =
         let same = same_at at k.stands in
-        let h = subst (λ (i : Instruction). j < working_base run.parts + (run.height - (effect_of k.operation i).takes)) same.0
-        (subst (λ (o : Operation). j < working_base run.parts + (run.height - (effect_of o _).takes)) same.1 high) in
+        let h = subst (λ (n : Instruction). j < working_base run.parts + (run.height - (effect_of k.operation n).takes)) same.0
+        (subst (λ (u : Operation). j < working_base run.parts + (run.height - (effect_of u i).takes)) same.1 high) in
         unwritten run.parts.literals means may (in_frame j) (next_script run) f s st.outcome f' s'
         (everywhere_map run.parts.literals (InUse (stack_of run k.instruction k.operation)) (Spares (in_frame j)) NotStuck (λ _. Unit {0})
-        (spared_below j low h) (λ l x. tt) (next_script run) (placed sound).in_use) st.came
+        (spared_below j low h) (λ l x. tt) (next_script run) (used sound)) st.came
 
     pub progress : run.state ≡ Live → Progress means may run f s a run' f'
     progress live = record {
@@ -284,7 +293,7 @@ module _ {S : Type 0} (means : S → Meaning) (may : S → Sent → Value → S 
       behind = λ j past.
           (script_laws means may).beyond run.parts run.place run.height k.instruction k.operation (counts_of run)
           f f' s s' st.outcome
-          (subst (λ (c : Script). Within run.parts.literals (counts_of run) c) (script_is k.stands) (placed sound).within)
+          (subst (λ (c : Script). Within run.parts.literals (counts_of run) c) (script_is run.parts run.place run.height k.stands) (placed sound).within)
           (came_of k.stands) j past;
     }
 

@@ -100,8 +100,8 @@ pub record WellPlaced (run : RunView) : Type 0 where
 
 module _ {S : Type 0} (means : S → Meaning) (may : S → Sent → Value → S → Type 0) where
   -- what the next step of a live run with the frame f on the host s comes to: it is not refused, it
-  -- stops for one of two reasons alone and exactly then, and it leaves the working cells below those
-  -- that it takes, and what lies behind the counted cells
+  -- stops for one of two reasons alone and exactly then, and it leaves the working cells below
+  -- those that it takes, and what lies behind the counted cells
   pub record Progress (run : RunView) (f : List Value) (s : S) (a : CallAnswer)
       (run' : RunView) (f' : List Value) : Type 0 where
     pub unrefused : a ≡ Ok tt

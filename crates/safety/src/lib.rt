@@ -1,2 +1,3 @@
-// Histories of opening, stepping and collecting, and what holds after every one of them. There is no code here, only definitions and proofs.
+// Histories of opening, stepping and collecting, and what holds after every one of them. There is
+// no code here, only definitions and proofs.
 #![tactic(auto)]

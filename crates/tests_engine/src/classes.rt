@@ -1,4 +1,5 @@
-// What each class of instructions does. Each row is a call of its own, so that what fails is told by its line.
+// What each class of instructions does. Each row is a call of its own, so that what fails is told
+// by its line.
 use crate::worlds::{block_of, comes_to, method_of, method_with, returns};
 use hosts::{Host, Row};
 use parcels::Ending;

@@ -1,5 +1,6 @@
-// What is refused, and what a refusal leaves. Each test opens its own run: a run borrows its bytes, so that no function can hand
-// out the two, and one that takes what a test does as a closure would take the handle, the host and the frame along.
+// What is refused, and what a refusal leaves. Each test opens its own run: a run borrows its bytes,
+// so that no function can hand out the two, and one that takes what a test does as a closure would
+// take the handle, the host and the frame along.
 use crate::worlds::{make_steps, method_of, open_in};
 use engine::Run;
 use hosts::Host;

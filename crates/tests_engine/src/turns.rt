@@ -1,4 +1,5 @@
-// Runs over many steps, in turn, and with frames that are altered between them. Each test opens its own run, as in `refusals`.
+// Runs over many steps, in turn, and with frames that are altered between them. Each test opens its
+// own run, as in `refusals`.
 use crate::worlds::{make_steps, method_of, open_in, state_after};
 use engine::Run;
 use hosts::{Host, Row};
@@ -38,7 +39,8 @@ fn forty_turns(rt: HostRuntime) -> Result<(), Fail> {
     Ok(())
 }
 
-// Two runs of one parcel on one host, step by step: each adds to what it read before the other stored.
+// Two runs of one parcel on one host, step by step: each adds to what it read before the other
+// stored.
 #[test]
 fn two_runs(rt: HostRuntime) -> Result<(), Fail> {
     let mut host = over_file(rt.alloc())?;

@@ -9,7 +9,8 @@ use std::process::Abort;
 use std::test::Fail;
 use values::{Fault, Value};
 
-// The flags of a method with one argument, one local and 8 slots: its working cells are 2 to 8 of the frame.
+// The flags of a method with one argument, one local and 8 slots: its working cells are 2 to 8 of
+// the frame.
 const METHOD: u32 = 2113;
 
 // The flags of a block with 8 slots and chain use 0.
