@@ -18,8 +18,10 @@ pub fn refusal_of<H: Host>(
     heights: &mut [u8],
     waiting: &mut [u16],
 ) -> Option<Fault>
-    ensures valid { (result ≡ None) ↔ (IsValid (marks_of (H.means host.now)) trusted bytes.now × ListsSuffice (question_on (H.means host.now) trusted bytes.now heights.old waiting.old)) }
-    ensures first { IfSome result (FirstFault (question_on (H.means host.now) trusted bytes.now heights.old waiting.old)) }
+    ensures valid { (result ≡ None) ↔ (IsValid (marks_of (H.means host.now)) trusted bytes.now ×
+        ListsSuffice (question_on (H.means host.now) trusted bytes.now heights.old waiting.old)) }
+    ensures first { IfSome result (FirstFault (question_on (H.means host.now) trusted bytes.now
+        heights.old waiting.old)) }
 {
     check(host, bytes, trusted, heights, waiting).err()
 }
@@ -33,7 +35,8 @@ pub fn first_height<H: Host>(
     heights: &mut [u8],
     waiting: &mut [u16],
 ) -> Option<u8>
-    ensures { result ≡ height_of_start (checked (question_on (H.means host.now) trusted bytes.now heights.old waiting.old)).verdict }
+    ensures { result ≡ height_of_start (checked (question_on (H.means host.now) trusted bytes.now
+        heights.old waiting.old)).verdict }
 {
     check(host, bytes, trusted, heights, waiting).ok()?;
     heights.first().copied()

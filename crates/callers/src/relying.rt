@@ -23,7 +23,8 @@ pub fn step_beside_totals<H: Host>(
     host: &mut H,
     sheet: &mut [Value],
 ) -> Result<(), Fault>
-    ensures steps { Step H.means H.may (view run.old) sheet.old host.old result (view run.new) sheet.new host.new }
+    ensures steps { Step H.means H.may (view run.old) sheet.old host.old result (view run.new)
+        sheet.new host.new }
     ensures totals { TotalsStay H.means H.may host.old (view run.old) sheet.old sheet.new }
 {
     run.step(host, sheet)
@@ -31,7 +32,8 @@ pub fn step_beside_totals<H: Host>(
 
 /// Steps a run and says where it is then, if it is live.
 pub fn step_and_look<H: Host>(run: &mut Run, host: &mut H, frame: &mut [Value]) -> Option<Seen>
-    ensures stepped { (a : CallAnswer) × Step H.means H.may (view run.old) frame.old host.old a (view run.new) frame.new host.new }
+    ensures stepped { (a : CallAnswer) × Step H.means H.may (view run.old) frame.old host.old a
+        (view run.new) frame.new host.new }
     ensures seen { Reached H.means H.may host.old (view run.old) → SeenRight (view run.new) result }
 {
     let _ = run.step(host, frame);

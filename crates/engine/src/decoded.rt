@@ -21,8 +21,10 @@ pub struct Decoded<'a> {
     pub operation: Operation,
     pub next: usize,
     pub height: usize,
-    ghost operand: { operand_fits (parts parcel) variable_count instruction.argument operation ≡ true },
-    ghost lands: { landing_fits parcel.code.now next instruction.argument (flow_of operation) ≡ true },
+    ghost operand: { operand_fits (parts parcel) variable_count instruction.argument operation
+        ≡ true },
+    ghost lands: { landing_fits parcel.code.now next instruction.argument (flow_of operation)
+        ≡ true },
     ghost need: { (effect_of operation instruction).takes ≤ height },
     ghost within: { after (effect_of operation instruction) height ≤ limit_of parcel.layout },
     ghost low: { height ≤ limit_of parcel.layout },

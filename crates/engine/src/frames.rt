@@ -46,7 +46,8 @@ pub(crate) fn pop_value(frame: &mut [Value], base: usize, h: usize) -> Value
 // The arguments in the first cells and nil in the locals; the other cells stay.
 pub(crate) fn lay_out(frame: &mut [Value], arguments: &[Value], locals: usize)
     requires { length arguments.now + locals ≤ length frame.old }
-    ensures { frame.new ≡ arguments.now ++ (replicate locals Nil ++ drop (length arguments.now + locals) frame.old) }
+    ensures { frame.new ≡ arguments.now ++ (replicate locals Nil ++ drop (length arguments.now +
+        locals) frame.old) }
 {
     let count = arguments.len();
     frame[..count].copy_from_slice(arguments);

@@ -72,10 +72,14 @@ impl<'a> Run<'a> {
         arguments: &[Value],
         frame: &mut [Value],
     ) -> Result<(), Fault>
-        requires { Ready (parts parcel) (length (H.means host.now).variables) (length (H.means host.now).bindings) 0 0 }
-        ensures answer { result ≡ unless (first (open_tests (parts parcel.entry) arguments.now frame.old)) tt }
-        ensures run { view self.new ≡ if_ok result (begun (parts parcel.entry) (length (H.means host.now).variables) (length (H.means host.now).bindings)) (view self.old) }
-        ensures frame { frame.new ≡ if_ok result (laid_out_frame (parts parcel.entry) arguments.now frame.old) frame.old }
+        requires { Ready (parts parcel) (length (H.means host.now).variables) (length (H.means
+            host.now).bindings) 0 0 }
+        ensures answer { result ≡ unless (first (open_tests (parts parcel.entry) arguments.now
+            frame.old)) tt }
+        ensures run { view self.new ≡ if_ok result (begun (parts parcel.entry) (length (H.means
+            host.now).variables) (length (H.means host.now).bindings)) (view self.old) }
+        ensures frame { frame.new ≡ if_ok result (laid_out_frame (parts parcel.entry) arguments.now
+            frame.old) frame.old }
     {
         let layout = parcel.layout;
         if arguments.len() != layout.argument_count as usize {
@@ -111,12 +115,18 @@ impl<'a> Run<'a> {
         heights: &mut [u8],
         waiting: &mut [u16],
     ) -> Result<u8, Fault>
-        ensures answer { result ≡ (opened (question_on (H.means host.now) trusted bytes.now heights.old waiting.old) arguments.now frame.old (view self.old)).answer }
-        ensures run { view self.new ≡ (opened (question_on (H.means host.now) trusted bytes.now heights.old waiting.old) arguments.now frame.old (view self.old)).run }
-        ensures frame { frame.new ≡ (opened (question_on (H.means host.now) trusted bytes.now heights.old waiting.old) arguments.now frame.old (view self.old)).frame }
-        ensures heights { heights.new ≡ (checked (question_on (H.means host.now) trusted bytes.now heights.old waiting.old)).heights }
-        ensures waiting { waiting.new ≡ (checked (question_on (H.means host.now) trusted bytes.now heights.old waiting.old)).waiting }
-        ensures extends { ExtendsHistory H.means H.may host.now (view self.old) host.now (Some (view self.new)) }
+        ensures answer { result ≡ (opened (question_on (H.means host.now) trusted bytes.now
+            heights.old waiting.old) arguments.now frame.old (view self.old)).answer }
+        ensures run { view self.new ≡ (opened (question_on (H.means host.now) trusted bytes.now
+            heights.old waiting.old) arguments.now frame.old (view self.old)).run }
+        ensures frame { frame.new ≡ (opened (question_on (H.means host.now) trusted bytes.now
+            heights.old waiting.old) arguments.now frame.old (view self.old)).frame }
+        ensures heights { heights.new ≡ (checked (question_on (H.means host.now) trusted bytes.now
+            heights.old waiting.old)).heights }
+        ensures waiting { waiting.new ≡ (checked (question_on (H.means host.now) trusted bytes.now
+            heights.old waiting.old)).waiting }
+        ensures extends { ExtendsHistory H.means H.may host.now (view self.old) host.now
+            (Some (view self.new)) }
     {
         let top = check(host, bytes, trusted, heights, waiting)?;
         let Ok(parcel) = Parcel::read(bytes) else {

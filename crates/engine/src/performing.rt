@@ -77,7 +77,8 @@ impl Decoded<'_> {
         requires room { self.now.height + 1 ≤ limit_of self.now.parcel.layout }
         requires long { Long (parts self.now.parcel) (length frame.old) }
         ensures result { result ≡ Continued self.now.next (self.now.height + 1) }
-        ensures frame { frame.new ≡ slice_set frame.old (working_base (parts self.now.parcel) + self.now.height) v }
+        ensures frame { frame.new ≡ slice_set frame.old (working_base (parts self.now.parcel) +
+            self.now.height) v }
     {
         push_value(frame, self.base(), self.height, v);
         self.follow(self.height + 1)
@@ -95,7 +96,9 @@ impl Decoded<'_> {
     ) -> StepResult
         requires need { count + 1 ≤ self.now.height }
         requires long { Long (parts self.now.parcel) (length frame.old) }
-        ensures { Exec (parts self.now.parcel).literals H.means H.may (sending (code_context_of (parts self.now.parcel)) self.now.instruction self.now.next self.now.height is_super selector count) frame.old host.old (outcome_of result) frame.new host.new }
+        ensures { Exec (parts self.now.parcel).literals H.means H.may (sending (code_context_of
+            (parts self.now.parcel)) self.now.instruction self.now.next self.now.height is_super
+            selector count) frame.old host.old (outcome_of result) frame.new host.new }
     {
         let base = self.base();
         let first = base + (self.height - count);
@@ -128,8 +131,10 @@ impl Decoded<'_> {
 
     // The selector number of the literal that the instruction names.
     fn selector(&self) -> u32
-        requires { is_selector (literal self.now.parcel.literals.now (self.now.instruction.argument / 256)) (self.now.instruction.argument % 256) ≡ true }
-        ensures { Some result ≡ selector_of (literal self.now.parcel.literals.now (self.now.instruction.argument / 256)) }
+        requires { is_selector (literal self.now.parcel.literals.now (self.now.instruction.argument
+            / 256)) (self.now.instruction.argument % 256) ≡ true }
+        ensures { Some result ≡ selector_of (literal self.now.parcel.literals.now
+            (self.now.instruction.argument / 256)) }
     {
         let Some(Literal::Selector { number, .. }) = literal_at(
             self.parcel.literals,
@@ -157,8 +162,10 @@ impl Decoded<'_> {
 
     // The number of the binding that the instruction names.
     fn binding(&self) -> u32
-        requires { is_binding (literal self.now.parcel.literals.now self.now.instruction.argument) ≡ true }
-        ensures { Some result ≡ binding_of (literal self.now.parcel.literals.now self.now.instruction.argument) }
+        requires { is_binding (literal self.now.parcel.literals.now self.now.instruction.argument) ≡
+            true }
+        ensures { Some result ≡ binding_of (literal self.now.parcel.literals.now
+            self.now.instruction.argument) }
     {
         let Some(Literal::Binding(number)) = literal_at(
             self.parcel.literals,
@@ -171,8 +178,10 @@ impl Decoded<'_> {
 
     // The value of the literal that the instruction names.
     fn constant(&self) -> Value
-        requires { is_constant (literal self.now.parcel.literals.now self.now.instruction.argument) ≡ true }
-        ensures { Some result ≡ constant_of (literal self.now.parcel.literals.now self.now.instruction.argument) }
+        requires { is_constant (literal self.now.parcel.literals.now self.now.instruction.argument)
+            ≡ true }
+        ensures { Some result ≡ constant_of (literal self.now.parcel.literals.now
+            self.now.instruction.argument) }
     {
         let Some(Literal::Constant(value)) = literal_at(
             self.parcel.literals,
@@ -188,7 +197,8 @@ impl Decoded<'_> {
     fn value_from<H: Host>(&self, source: Source, host: &H, frame: &[Value]) -> Value
         requires is { self.now.operation ≡ Push source }
         requires long { Long (parts self.now.parcel) (length frame.now) }
-        ensures { Some result ≡ source_value (parts self.now.parcel) self.now.instruction source frame.now (H.means host.now) }
+        ensures { Some result ≡ source_value (parts self.now.parcel) self.now.instruction source
+            frame.now (H.means host.now) }
     {
         let a = self.instruction.argument;
         match source {
@@ -248,8 +258,10 @@ impl Decoded<'_> {
 
     // The landing place of a jump.
     pub(crate) fn land(&self, direction: Direction) -> usize
-        requires { is_some (landing_of self.now.parcel.code.now direction self.now.next self.now.instruction.argument) ≡ true }
-        ensures { Some result ≡ landing_of self.now.parcel.code.now direction self.now.next self.now.instruction.argument }
+        requires { is_some (landing_of self.now.parcel.code.now direction self.now.next
+            self.now.instruction.argument) ≡ true }
+        ensures { Some result ≡ landing_of self.now.parcel.code.now direction self.now.next
+            self.now.instruction.argument }
     {
         landing(
             self.parcel.code,

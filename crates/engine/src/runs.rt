@@ -18,5 +18,6 @@ pub struct Run<'a> {
     pub(crate) state: State,
     pub(crate) place: usize,
     pub(crate) height: usize,
-    ghost ready: { (state ≡ Live → ∥ Ready (parts parcel) variable_count binding_count place height ∥₁) },
+    ghost ready: { (state ≡ Live
+        → ∥ Ready (parts parcel) variable_count binding_count place height ∥₁) },
 }

@@ -32,7 +32,11 @@ impl Run<'_> {
 
     /// The opcode of the instruction at the place, if there is one.
     pub fn opcode(&self) -> Option<u8>
-        ensures { result ≡ elim (read_at (view self.now).parts.code (view self.now).place) [ Ok p ↦ Some p.0.opcode | Err e ↦ None ] }
+        ensures { result ≡ elim (read_at (view self.now).parts.code (view self.now).place) [
+          | Ok p ↦
+              Some p.0.opcode
+          | Err e ↦ None
+        ] }
     {
         let mut reader = Reader::at(self.parcel.code, self.place);
         let (instruction, _) = reader.advance().ok()?;

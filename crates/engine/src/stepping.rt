@@ -57,7 +57,8 @@ impl<'a> Run<'a> {
     // short. A run that is not live is let through, since that comes first and is refused by
     // `perform`.
     fn check_counts<H: Host>(&self, host: &H, cells: usize) -> Result<(), Fault>
-        ensures answer { result ≡ (if is_live self.now.state then unless (first (count_tests (view self.now) (H.means host.now) cells)) tt else Ok tt) }
+        ensures answer { result ≡ (if is_live self.now.state then unless (first (count_tests (view
+            self.now) (H.means host.now) cells)) tt else Ok tt) }
         ensures long { OnOk result (self.now.state ≡ Live → Long (parts self.now.parcel) cells) }
     {
         let State::Live = self.state else {
@@ -86,7 +87,8 @@ impl<'a> Run<'a> {
         requires next { HasDecoded (view self.old) next }
         requires long { self.old.state ≡ Live → Long (parts self.old.parcel) (length frame.old) }
         ensures run { view self.new ≡ view self.old }
-        ensures result { PerformedNext H.means H.may (view self.old) next.entry frame.old host.old result frame.new host.new }
+        ensures result { PerformedNext H.means H.may (view self.old) next.entry frame.old host.old
+            result frame.new host.new }
     {
         match (self.state, next) {
             (State::Ended { .. } | State::Stopped(_), _) => Err(Rule::RunNotLive.at(self.place)),
@@ -149,7 +151,8 @@ impl<'a> Run<'a> {
 
     // One step.
     fn step_once<H: Host>(&mut self, host: &mut H, frame: &mut [Value]) -> Result<(), Fault>
-        ensures { Step H.means H.may (view self.old) frame.old host.old result (view self.new) frame.new host.new }
+        ensures { Step H.means H.may (view self.old) frame.old host.old result (view self.new)
+            frame.new host.new }
     {
         let next = self.peek();
         self.check_counts(host, frame.len())?;
@@ -163,8 +166,10 @@ impl<'a> Run<'a> {
     /// the frame has fewer than arguments + slots cells. Every list of opening, stepping and
     /// collecting calls is safe.
     pub fn step<H: Host>(&mut self, host: &mut H, frame: &mut [Value]) -> Result<(), Fault>
-        ensures steps { Step H.means H.may (view self.old) frame.old host.old result (view self.new) frame.new host.new }
-        ensures extends { ExtendsHistory H.means H.may host.old (view self.old) host.new (Some (view self.new)) }
+        ensures steps { Step H.means H.may (view self.old) frame.old host.old result (view self.new)
+            frame.new host.new }
+        ensures extends { ExtendsHistory H.means H.may host.old (view self.old) host.new
+            (Some (view self.new)) }
         ensures safe { EveryHistoryIsSafe H.means H.may }
         ensures laws { ScriptLaws H.means H.may }
     {

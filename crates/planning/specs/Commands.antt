@@ -17,12 +17,15 @@ texts_of ss = map string_bytes ss
 -- paths in order
 pub data Asks : List (List ℕ) → Bool → Bool → ℕ → List Value → List (List ℕ) → Type 0 where
   none : Asks [] false false 1000000 [] []
-  trace : {ws ps : List (List ℕ)} {t u : Bool} {n : ℕ} {vs : List Value} → Asks ws t u n vs ps → Asks (ws ++ (codes "--trace" ∷ [])) true u n vs ps
-  trusted : {ws ps : List (List ℕ)} {t u : Bool} {n : ℕ} {vs : List Value} → Asks ws t u n vs ps → Asks (ws ++ (codes "--trusted" ∷ [])) t true n vs ps
+  trace : {ws ps : List (List ℕ)} {t u : Bool} {n : ℕ} {vs : List Value} → Asks ws t u n vs ps
+      → Asks (ws ++ (codes "--trace" ∷ [])) true u n vs ps
+  trusted : {ws ps : List (List ℕ)} {t u : Bool} {n : ℕ} {vs : List Value} → Asks ws t u n vs ps
+      → Asks (ws ++ (codes "--trusted" ∷ [])) t true n vs ps
   steps : {ws ps : List (List ℕ)} {t u : Bool} {n : ℕ} {vs : List Value} → Asks ws t u n vs ps
       → (w : List ℕ) (k : ℕ) → Count w k → Asks (ws ++ (codes "--steps" ∷ w ∷ [])) t u k vs ps
   argument : {ws ps : List (List ℕ)} {t u : Bool} {n : ℕ} {vs : List Value} → Asks ws t u n vs ps
-      → (w : List ℕ) (z : ℤ) (v : Value) → Number w z → ArgumentOf z v → Asks (ws ++ (codes "--argument" ∷ w ∷ [])) t u n (vs ++ (v ∷ [])) ps
+      → (w : List ℕ) (z : ℤ) (v : Value) → Number w z → ArgumentOf z v
+      → Asks (ws ++ (codes "--argument" ∷ w ∷ [])) t u n (vs ++ (v ∷ [])) ps
   path : {ws ps : List (List ℕ)} {t u : Bool} {n : ℕ} {vs : List Value} → Asks ws t u n vs ps
       → (w : List ℕ) → Is w Path → Asks (ws ++ (w ∷ [])) t u n vs (ps ++ (w ∷ []))
 
@@ -33,8 +36,10 @@ AsksFor ws p ps = Asks ws p.trace p.trusted p.steps (vec_items p.arguments) ps
 -- the same, where an option that awaits its number may stand last
 abbrev pub AsksSoFar : Option Awaited → List (List ℕ) → Plan → List (List ℕ) → Type 0
 AsksSoFar None ws p ps = AsksFor ws p ps
-AsksSoFar (Some Steps) ws p ps = (before : List (List ℕ)) × (ws ≡ before ++ (codes "--steps" ∷ [])) × AsksFor before p ps
-AsksSoFar (Some Argument) ws p ps = (before : List (List ℕ)) × (ws ≡ before ++ (codes "--argument" ∷ [])) × AsksFor before p ps
+AsksSoFar (Some Steps) ws p ps =
+    (before : List (List ℕ)) × (ws ≡ before ++ (codes "--steps" ∷ [])) × AsksFor before p ps
+AsksSoFar (Some Argument) ws p ps =
+    (before : List (List ℕ)) × (ws ≡ before ++ (codes "--argument" ∷ [])) × AsksFor before p ps
 
 -- a draft is what the words so far ask for
 abbrev pub Drafted : Draft → List (List ℕ) → Type 0

@@ -6,7 +6,12 @@ use Rattle.planning.specs.declared.texts.StepText.{StepText}
 
 -- step n of a run by what is read at its place
 abbrev pub text_of : ℕ → RunView → Reading → Option StepText
-text_of n run (Ok p) = Some (record { number = n; place = run.place; height = run.height; opcode = p.0.opcode })
+text_of n run (Ok p) = Some (record {
+  number = n;
+  place = run.place;
+  height = run.height;
+  opcode = p.0.opcode;
+})
 text_of n run (Err e) = None
 
 -- step n of a run: the place, the height, and the opcode of the instruction that is read there

@@ -1,5 +1,5 @@
 -- What is printed, in bytes.
-use Rattle.std.specs.Prelude.{ℕ, Bool, cond, List, ◌++◌, Ok, Err, Result, codes, decimal}
+use Rattle.std.specs.Prelude.{ℕ, Bool, if◌then◌else◌, List, ◌++◌, Ok, Err, Result, codes, decimal}
 use Rattle.values.specs.Faults.{fault_text}
 use Rattle.values.specs.Kinds.{value_text}
 use Rattle.values.specs.declared.faults.Fault.{Fault}
@@ -20,7 +20,8 @@ use Rattle.planning.specs.declared.texts.CellText.{CellText}
 -- a step that is about to be made
 abbrev pub step_text : StepText → List ℕ
 step_text t =
-    codes "step " ++ (decimal t.number ++ (codes ": place " ++ (decimal t.place ++ (codes " height " ++ (decimal t.height ++ (codes " opcode " ++ decimal t.opcode))))))
+    codes "step " ++ (decimal t.number ++ (codes ": place " ++ (decimal t.place
+    ++ (codes " height " ++ (decimal t.height ++ (codes " opcode " ++ decimal t.opcode))))))
 
 -- an end of a run
 abbrev pub ending_text : Ending → List ℕ
@@ -29,12 +30,16 @@ ending_text MethodReturn = codes "method return"
 
 -- a run in a state at a place after k steps
 abbrev pub state_text : State → ℕ → ℕ → List ℕ
-state_text Live p k = codes "live at " ++ (decimal p ++ (codes " after " ++ (decimal k ++ codes " steps")))
+state_text Live p k =
+    codes "live at " ++ (decimal p ++ (codes " after " ++ (decimal k ++ codes " steps")))
 state_text (Ended e v) p k =
-    codes "ended by " ++ (ending_text e ++ (codes " with " ++ (value_text v ++ (codes " after " ++ (decimal k ++ codes " steps")))))
+    codes "ended by " ++ (ending_text e ++ (codes " with " ++ (value_text v
+    ++ (codes " after " ++ (decimal k ++ codes " steps")))))
 state_text (Stopped (NotUnderstood n)) p k =
-    codes "stopped at " ++ (decimal p ++ (codes ", message " ++ (decimal n ++ (codes " not understood, after " ++ (decimal k ++ codes " steps")))))
-state_text (Stopped NoBlock) p k = codes "stopped at " ++ (decimal p ++ (codes ", no block, after " ++ (decimal k ++ codes " steps")))
+    codes "stopped at " ++ (decimal p ++ (codes ", message " ++ (decimal n
+    ++ (codes " not understood, after " ++ (decimal k ++ codes " steps")))))
+state_text (Stopped NoBlock) p k =
+    codes "stopped at " ++ (decimal p ++ (codes ", no block, after " ++ (decimal k ++ codes " steps")))
 
 -- how an opened parcel ran
 abbrev pub ran_text : Ran → List ℕ
@@ -56,11 +61,13 @@ row_text Bindings = codes "binding"
 
 -- a mark, by whether it is trusted
 abbrev pub mark_text : Bool → List ℕ
-mark_text b = cond b (codes "trusted") (codes "open")
+mark_text b = if b then codes "trusted" else codes "open"
 
 -- a cell of a host
 abbrev pub cell_text : CellText → List ℕ
-cell_text t = row_text t.row ++ (codes " " ++ (decimal t.number ++ (codes ": " ++ (mark_text t.trusted ++ (codes " " ++ value_text t.value)))))
+cell_text t =
+    row_text t.row ++ (codes " " ++ (decimal t.number ++ (codes ": "
+    ++ (mark_text t.trusted ++ (codes " " ++ value_text t.value)))))
 
 -- an option whose number is not there, or is none
 abbrev pub awaited_text : Awaited → List ℕ

@@ -42,7 +42,8 @@ fn run_all<H: Host>(
     paths: &[String],
 ) -> anyhow::Result<()>
     ensures within { StaysWithin plan.now (H.means host.old) (H.means host.new) }
-    ensures handled { OnOk result (InTurn H.means H.may plan.now host.old (length paths.now) host.new) }
+    ensures handled { OnOk result (InTurn H.means H.may plan.now host.old (length paths.now)
+        host.new) }
 {
     for path in paths {
         let parcel = bytes_of(rt, "parcel", path)?;

@@ -58,7 +58,8 @@ fn announce(rt: &impl Print, trace: bool, number: u64, run: &Run) -> io::Result<
 
 // Where a run is after so many steps.
 fn ran_for(run: &Run, steps: u64) -> Ran
-    ensures { result ≡ record { state = (view run.now).state; place = (view run.now).place; steps = steps } }
+    ensures { result ≡ record { state = (view run.now).state; place = (view run.now).place; steps =
+        steps } }
 {
     Ran {
         state: run.state(),
@@ -78,7 +79,8 @@ fn follow<H: Host>(
 ) -> io::Result<Ran>
     requires { Going H.means H.may host.old (view run.old) frame.old }
     ensures leads { LeadsOn H.means H.may host.old (view run.old) host.new (view run.new) }
-    ensures ran { IfOk result (λ r. Followed H.means H.may plan.now.steps host.old (view run.old) frame.old r host.new (view run.new) frame.new) }
+    ensures ran { IfOk result (λ r. Followed H.means H.may plan.now.steps host.old (view run.old)
+        frame.old r host.new (view run.new) frame.new) }
 {
     for k in 0..plan.steps {
         let State::Live = run.state() else {
@@ -100,7 +102,8 @@ fn play<H: Host>(
     frame: &mut [Value],
 ) -> io::Result<Outcome>
     ensures within { StaysWithin plan.now (H.means host.old) (H.means host.new) }
-    ensures outcome { IfOk result (λ o. Played H.means H.may (opened_under plan.now (H.means host.old) bytes.now frame.old) plan.now.steps host.old o host.new frame.new) }
+    ensures outcome { IfOk result (λ o. Played H.means H.may (opened_under plan.now (H.means
+        host.old) bytes.now frame.old) plan.now.steps host.old o host.new frame.new) }
 {
     let mut heights = [0u8; MAX_PAIRS];
     let mut waiting = [0u16; MAX_PAIRS];

@@ -113,14 +113,16 @@ module _ {S : Type 0} (means : S → Meaning) (may : S → Sent → Value → S 
         → (j : ℕ) → working_base run.parts ≤ j
         → j < working_base run.parts + (run.height - (effect_of o i).takes)
         → slice_index_or f' j Nil ≡ slice_index_or f j Nil
-    pub behind : (j : ℕ) → frame_cells run.parts ≤ j → slice_index_or f' j Nil ≡ slice_index_or f j Nil
+    pub behind : (j : ℕ) → frame_cells run.parts ≤ j
+        → slice_index_or f' j Nil ≡ slice_index_or f j Nil
 
   -- one call takes the host and the runs that are held to the host and the runs afterwards
   pub data Call : S → HeldRuns → S → HeldRuns → Type 0 where
     takes : {s : S} {rs : HeldRuns} → Call s rs s (rs ++ (Some empty ∷ []))
     opens : {s : S} {rs : HeldRuns} (k : ℕ) (run : RunView) → Holds rs k run
         → (t : Bool) (b hs ws : List ℕ) (args f : List Value)
-        → Call s rs s (slice_set rs k (Some (opened (question_on (means s) t b hs ws) args f run).run))
+        → Call s rs s
+          (slice_set rs k (Some (opened (question_on (means s) t b hs ws) args f run).run))
     steps : {s : S} {rs : HeldRuns} (k : ℕ) (run run' : RunView) → Holds rs k run
         → (s' : S) (f f' : List Value) (a : CallAnswer) → Step means may run f s a run' f' s'
         → Call s rs s' (slice_set rs k (Some run'))

@@ -28,9 +28,8 @@ method code = (0 ∷ 0 ∷ 0 ∷ 0 ∷ 0 ∷ 0 ∷ 0 ∷ 32 ∷ length code / 25
 -- opening it, untrusted, with the frame f
 abbrev pub opens : List ℕ → List Value → Opened
 opens code f =
-    opened
-    (question_on (bare tt) false (method code) (replicate (length code / 2) 0) (replicate (length code / 2) 0))
-    [] f empty
+    let list = replicate (length code / 2) 0 in
+    opened (question_on (bare tt) false (method code) list list) [] f empty
 
 -- a step on the bare host
 abbrev pub BareStep : RunView → List Value → CallAnswer → RunView → List Value → Type 0

@@ -172,6 +172,7 @@ module _ (c : CodeContext) (i : Instruction) (next h : ℕ) where
   script_of Pop = continue_at next (h - 1)
   script_of Duplicate = act (read_cell top) pushing
   script_of Close =
-      act (read_cell top) (λ v. closed_over v (λ w. act (write_cell top w) (λ _. continue_at next h)))
+      act (read_cell top) (λ v.
+      closed_over v (λ w. act (write_cell top w) (λ _. continue_at next h)))
   script_of (End e) = act (read_cell top) (λ v. done (comes_to (ends e v)))
   script_of Line = continue_at next h
