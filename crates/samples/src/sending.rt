@@ -12,10 +12,8 @@ pub fn send_to<H: Host>(
     receiver: Value,
     arguments: &[Value],
 ) -> Option<Value>
-    ensures {
-        let m = message is_super selector receiver arguments.now in
-        Answered H.Host.means H.Host.may host.old m result host.new
-    }
+    ensures { let m = message is_super selector receiver arguments.now in
+        Answered H.Host.means H.Host.may host.old m result host.new }
 {
     host.send(&Message {
         is_super,

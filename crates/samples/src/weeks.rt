@@ -22,7 +22,7 @@ pub fn over_bytes(heap: Global, bytes: &[u8]) -> Result<Arithmetic<WeekFile>, Al
 
 /// A host over `SMALL_WEEK`, with arithmetic. An error only where memory runs out.
 pub fn over_file(heap: Global) -> Result<Arithmetic<WeekFile>, AllocError>
-    ensures { IfOk result (λ h. h.below.bytes.items ≡ week) }
+    ensures { IfOk result (λ h. h.below.bytes.items ≡ small_week) }
 {
     over_bytes(heap, &SMALL_WEEK)
 }
