@@ -1,8 +1,9 @@
 -- Which results are answered.
-use Rattle.std.proofs.Common.{◌≡◌, zero, suc, Bool, true, false, cond, eqb, ◌≢◌, ℤ, pos, negsuc, ◌+ℤ◌, ◌-ℤ◌, ◌*ℤ◌, None, Option, refl, ap, ◌∙◌, arith}
+use Rattle.std.proofs.Common.{◌≡◌, Bool, true, false, cond, ◌≢◌, ℤ, pos, ◌+ℤ◌, ◌-ℤ◌, ◌*ℤ◌, None, Option, refl, ap, ◌∙◌, arith}
 use Rattle.std.specs.Option.{option_map}
 use Rattle.std.proofs.lemmas.Int.{ints}
-use Rattle.std.proofs.lemmas.Bool.Decides.{nat_tests}
+use Rattle.std.proofs.lemmas.Bool.{cond-false, false_from_ne_true}
+use Rattle.std.proofs.lemmas.Bool.Decides.{Decides-int_eq}
 use Rattle.values.specs.Small.{in_range, range_low, range_high}
 use Rattle.values.specs.declared.small.SmallInteger.{SmallInteger}
 use Rattle.values.specs.declared.kinds.Value.{Value}
@@ -11,16 +12,16 @@ use Rattle.values.proofs.Smalls.{small_is, small_out}
 use Rattle.hosts.specs.Meaning.{Sent}
 use Rattle.arithmetic.specs.Division.{floor_quotient, floor_remainder}
 use Rattle.values.specs.Kinds.{integer}
-use Rattle.arithmetic.specs.Operators.{eqZ}
-use Rattle.arithmetic.specs.Own.{own}
-use Rattle.arithmetic.specs.Laws.{asks, InRange, Gives, Computes, AlwaysLeft, NeverByZero}
+use Rattle.std.specs.Ordering.{int_eq}
+use Rattle.arithmetic.specs.Own.{own_answer}
+use Rattle.arithmetic.specs.Laws.{integer_message, InRange, AnswersInRange, Computes, AlwaysLeft, NeverByZero}
 use Rattle.arithmetic.proofs.Divisions.{divides}
 
 -- a divisor other than 0
-pub unless_zero : (o : Option Value) (y : ℤ) → y ≢ pos 0 → cond (eqZ y (pos 0)) None o ≡ o
-unless_zero o (pos zero) h = absurd (h refl)
-unless_zero o (pos (suc n)) h = let e : eqb (suc n) 0 ≡ false = grind (arith, nat_tests) in ap (λ b. cond b None o) e
-unless_zero o (negsuc n) h = refl
+pub unless_zero : (o : Option Value) (y : ℤ) → y ≢ pos 0 → cond (int_eq y (pos 0)) None o ≡ o
+unless_zero o y h =
+    cond-false (int_eq y (pos 0)) None o
+    (false_from_ne_true _ (λ t. h ((Decides-int_eq y (pos 0)).0 t)))
 
 abbrev within : (z : ℤ) → InRange z → SmallInteger
 within z h = record { value = z; low = h.0; high = omega (arith, ints, h.1) }
@@ -29,19 +30,21 @@ outside_by : (z : ℤ) (b : Bool) → in_range z ≡ b → (InRange z → ⊥) �
 outside_by z true e h = absurd (h (range_low z e, omega (arith, ints, range_high z e)))
 outside_by z false e h = e
 
-gives : (m : Sent) (z : ℤ) → own m ≡ integer z → Gives m z
-gives m z e = record {
+answers : (m : Sent) (z : ℤ) → own_answer m ≡ integer z → AnswersInRange m z
+answers m z e = record {
   inside = λ h. (within z h, refl, e ∙ ap (option_map Integer) (small_is (within z h) z refl));
   outside = λ h. e ∙ ap (option_map Integer) (small_out z (outside_by z (in_range z) refl h));
 }
 
 pub computes : Computes
 computes x y = record {
-  sum = gives (asks 0 x y) (x.value +ℤ y.value) refl;
-  difference = gives (asks 1 x y) (x.value -ℤ y.value) refl;
-  product = gives (asks 8 x y) (x.value *ℤ y.value) refl;
-  remainder = λ h. gives (asks 10 x y) (floor_remainder x.value y.value) (unless_zero _ y.value h);
-  quotient = λ h. gives (asks 13 x y) (floor_quotient x.value y.value) (unless_zero _ y.value h);
+  sum = answers (integer_message 0 x y) (x.value +ℤ y.value) refl;
+  difference = answers (integer_message 1 x y) (x.value -ℤ y.value) refl;
+  product = answers (integer_message 8 x y) (x.value *ℤ y.value) refl;
+  remainder = λ h.
+      answers (integer_message 10 x y) (floor_remainder x.value y.value) (unless_zero _ y.value h);
+  quotient = λ h.
+      answers (integer_message 13 x y) (floor_quotient x.value y.value) (unless_zero _ y.value h);
 }
 
 pub always_left : AlwaysLeft
@@ -51,6 +54,6 @@ always_left x y h =
 
 pub never_by_zero : NeverByZero
 never_by_zero x y e = (
-  ap (λ z. cond (eqZ z (pos 0)) None (integer (floor_remainder x.value z))) e,
-  ap (λ z. cond (eqZ z (pos 0)) None (integer (floor_quotient x.value z))) e,
+  ap (λ z. cond (int_eq z (pos 0)) None (integer (floor_remainder x.value z))) e,
+  ap (λ z. cond (int_eq z (pos 0)) None (integer (floor_quotient x.value z))) e,
 )

@@ -1,15 +1,16 @@
 // The answer of the layer itself.
 ghost use Rattle.std.specs.Prelude.{◌≡◌};
 ghost use Rattle.hosts.specs.Sending.{sent};
-ghost use Rattle.arithmetic.specs.Own.{own};
+ghost use Rattle.arithmetic.specs.Own.{own_answer};
 
 use crate::operators::Operator;
 use hosts::Message;
 use values::Value;
 
-// The answer to m, if receiver and argument are small integers and its operator gives a value for them.
+/// The answer to m, if receiver and argument are small integers and its operator gives a value for
+/// them.
 pub(crate) fn own_answer(m: &Message) -> Option<Value>
-    ensures { result ≡ own (sent m.now) }
+    ensures { result ≡ own_answer (sent m.now) }
 {
     if m.is_super {
         return None;

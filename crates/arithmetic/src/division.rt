@@ -3,7 +3,7 @@ ghost use Rattle.std.specs.Prelude.{◌≡◌, pos, FitsSigned, ◌≢◌};
 ghost use Rattle.std.specs.Int.{w32};
 ghost use Rattle.arithmetic.specs.Division.{floor_quotient, floor_remainder};
 
-// The quotient of a by b, rounded down.
+/// The quotient of a by b, rounded down.
 pub(crate) fn floor_quotient(a: i64, b: i64) -> i64
     requires nonzero { b ≢ pos 0 }
     requires dividend { FitsSigned w32 a }
@@ -17,7 +17,7 @@ pub(crate) fn floor_quotient(a: i64, b: i64) -> i64
     }
 }
 
-// What is left of a then; it has the sign of b. Two functions and no pair, since every message asks for one of the two.
+/// What is left of a then; it is 0 or has the sign of b.
 pub(crate) fn floor_remainder(a: i64, b: i64) -> i64
     requires nonzero { b ≢ pos 0 }
     requires dividend { FitsSigned w32 a }

@@ -6,7 +6,7 @@ ghost use Rattle.arithmetic.specs.Operators.{operator_of, applied};
 use crate::division::{floor_quotient, floor_remainder};
 use values::{SmallInteger, Unknown, Value};
 
-// What is done with two integers.
+/// What is done with two small integers.
 #[derive(Clone, Copy)]
 pub(crate) enum Operator {
     Add,
@@ -27,7 +27,8 @@ impl TryFrom<u32> for Operator {
 
     ghost try_from_gives = { λ s r. r ≡ ok_or (operator_of s) (record { 0 = s }) };
 
-    // The operator that a selector number stands for; 9, 11 and 12 stand for none.
+    /// The operator that a selector number stands for. 9, 11, 12 and the numbers above 13 stand for
+    /// none, and come back in the error.
     fn try_from(selector: u32) -> Result<Operator, Unknown<u32>> {
         match selector {
             0 => Ok(Operator::Add),
@@ -47,7 +48,8 @@ impl TryFrom<u32> for Operator {
 }
 
 impl Operator {
-    // What it gives for x and y, if it gives a value.
+    /// What it gives for x and y. None where the result is no small integer, and where x is divided
+    /// by 0.
     pub(crate) fn apply(self, x: SmallInteger, y: SmallInteger) -> Option<Value>
         ensures { result ≡ applied self x.value y.value }
     {

@@ -6,8 +6,8 @@ use Rattle.values.specs.declared.kinds.Value.{Value}
 use Rattle.values.specs.declared.kinds.Value.TheVariants.{Integer}
 
 -- its bytes: the counts 1 and 2, object 42, and the cells -7, object 100, trusted, and true
-abbrev pub week : List ℕ
-week =
+abbrev pub small_week : List ℕ
+small_week =
     0 ∷ 1 ∷ 0 ∷ 2 ∷ 0 ∷ 0 ∷ 0 ∷ 42
     ∷ 0 ∷ 3 ∷ 255 ∷ 255 ∷ 255 ∷ 249
     ∷ 1 ∷ 4 ∷ 0 ∷ 0 ∷ 0 ∷ 100

@@ -1,4 +1,5 @@
-// What the trials of several crates share: the bytes of parcels, hosts over a small week file, messages, and faults in numbers.
+// What the tests of several crates share: the bytes of parcels, hosts over a small week file,
+// messages, and faults in numbers.
 #![tactic(auto)]
 
 mod faults;
@@ -11,4 +12,4 @@ pub use parcels::{
     BINDING_0, BINDING_1, BINDING_2, BLOCK, Entry, KEYWORD, NIL, OBJECT, UNARY, parcel_bytes,
 };
 pub use sending::send_to;
-pub use weeks::{WEEK, int, over_bytes, over_file};
+pub use weeks::{SMALL_WEEK, int, over_bytes, over_file};

@@ -1,4 +1,4 @@
-// Trials of the arithmetic layer over week files.
+// Tests of the arithmetic layer over week files.
 #![tactic(auto)]
 
 #[cfg(test)]

@@ -2,7 +2,7 @@
 use crate::worlds::between;
 use arithmetic::Arithmetic;
 use hosts::{Host, Row};
-use samples::{WEEK, int, over_bytes, over_file, send_to};
+use samples::{SMALL_WEEK, int, over_bytes, over_file, send_to};
 use std::process::Abort;
 use std::test::Fail;
 use values::{Fault, Rule, Value};
@@ -88,7 +88,7 @@ fn messages_pass_and_leave_the_file(rt: HostRuntime) -> Result<(), Fail> {
     try_messages(&rt, &mut host);
     try_sums(&rt, &mut host);
     let bytes = host.into_below().into_bytes();
-    assert!(rt; bytes.as_slice() == WEEK.as_slice());
+    assert!(rt; bytes.as_slice() == SMALL_WEEK.as_slice());
     Ok(())
 }
 

@@ -1,4 +1,4 @@
-// What the trials share: messages between two integers.
+// What the tests share: messages between two integers.
 use hosts::Host;
 use samples::{int, send_to};
 use values::Value;

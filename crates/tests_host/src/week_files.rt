@@ -28,7 +28,7 @@ fn why(bytes: &[u8]) -> Option<(u8, usize)> {
     missing(check_file(bytes))
 }
 
-// A fault in numbers, as the trials have them; none where all is well.
+// A fault in numbers; none where all is well.
 fn missing<T>(answer: Result<T, Fault>) -> Option<(u8, usize)>
 where
     T: Drop,
