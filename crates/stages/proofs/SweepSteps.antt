@@ -1,9 +1,10 @@
 -- One instruction of the encoding stage.
 use Rattle.std.proofs.Common.{◌≡◌, ℕ, zero, suc, ◌+◌, ◌<◌, ◌≤◌, Bool, false, leb, List, length, Some, None, Ok, Err, Option, Result, sym, refl, ap, ◌∙◌, arith}
 use Rattle.std.proofs.lemmas.Bool.{cond-true, cond-false, le-leb, lt-leb}
+use Rattle.std.specs.Option.{option_or}
 use Rattle.std.specs.Result.{MatchResult}
 use Rattle.values.specs.Faults.{fault}
-use Rattle.values.specs.Order.{or_else, unless, and_then}
+use Rattle.values.specs.Order.{unless, and_then}
 use Rattle.values.specs.declared.faults.Fault.{Fault}
 use Rattle.parcels.specs.Reading.{Reading, read_at, unreadable_rule}
 use Rattle.parcels.specs.declared.reading.Instruction.{Instruction}
@@ -65,7 +66,7 @@ sweep_at x b p r s h e = by s.fuel s.enough s.same
     }
 
 -- an answer for the first, and then for the second
-in_turn : (o p : Option Fault) → and_then (answer o) (λ _. answer p) ≡ answer (or_else o p)
+in_turn : (o p : Option Fault) → and_then (answer o) (λ _. answer p) ≡ answer (option_or o p)
 in_turn (Some f) p = refl
 in_turn None p = refl
 

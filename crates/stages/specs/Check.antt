@@ -1,6 +1,7 @@
 -- The whole check: the stages in order, and what the two lists hold afterwards.
 use Rattle.std.specs.Prelude.{ℕ, ◌/◌, Bool, ◌||◌, List, [], ◌∷◌, ◌++◌, length, drop, replicate, Ok, Err, Option, Result, nat_lt}
-use Rattle.values.specs.Order.{Test, test, first, or_else, unless, and_then}
+use Rattle.std.specs.Option.{option_or}
+use Rattle.values.specs.Order.{Test, test, first, unless, and_then}
 use Rattle.values.specs.declared.faults.Fault.{Fault}
 use Rattle.values.specs.declared.faults.Rule.TheVariants.{ListShort}
 use Rattle.hosts.specs.Meaning.{Marks, Meaning, marks_of}
@@ -45,7 +46,7 @@ list_tests n h w = test ListShort 0 (nat_lt h n || nat_lt w n) ∷ []
 -- the first fault of the stages literals and lists, over lists of h and w entries
 abbrev pub admission_fault : Marks → Parts → ℕ → ℕ → Option Fault
 admission_fault m p h w =
-    or_else (literals_fault p.literals p.layout.literal_count (length m.bindings))
+    option_or (literals_fault p.literals p.layout.literal_count (length m.bindings))
     (first (list_tests (pairs p.code) h w))
 
 -- the stages header, flags, literals and lists: the parcel taken apart, or the first fault

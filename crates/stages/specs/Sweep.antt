@@ -1,7 +1,8 @@
 -- The encoding stage: the instructions in turn, from place 0 to the end of the code.
 use Rattle.std.specs.Prelude.{ℕ, zero, suc, ◌+◌, ◌-◌, ◌*◌, ◌%◌, Bool, true, false, if◌then◌else◌, ◌&&◌, List, [], ◌∷◌, length, Some, None, Ok, Err, Option, ◌==◌, nat_le}
+use Rattle.std.specs.Option.{option_or}
 use Rattle.values.specs.Faults.{fault}
-use Rattle.values.specs.Order.{Test, test, first, or_else}
+use Rattle.values.specs.Order.{Test, test, first}
 use Rattle.values.specs.declared.faults.Fault.{Fault}
 use Rattle.values.specs.declared.faults.Rule.TheVariants.{CodeCut}
 use Rattle.parcels.specs.Literals.{literal}
@@ -37,7 +38,7 @@ site p b i = record { place = p; instruction = i; next = following p i; after_bl
 abbrev pub found_at : Context → (Bool → ℕ → Option Fault) → Bool → ℕ → Reading → Option Fault
 found_at x further b p (Err e) = Some (fault (unreadable_rule e) p)
 found_at x further b p (Ok r) =
-    or_else (site_fault x (site p b r.0))
+    option_or (site_fault x (site p b r.0))
     (further (pushes_block x.parts.literals r.0) (following p r.0))
 
 -- the first fault of the instructions from p on, of which there are at most n
@@ -55,4 +56,4 @@ length_tests l = test CodeCut 0 (l == 0) ∷ test CodeCut (l - 1) (l % PAIR_BYTE
 abbrev pub encoding_fault : Context → Option Fault
 encoding_fault x =
     let l = length x.parts.code in
-    or_else (first (length_tests l)) (swept x l false 0)
+    option_or (first (length_tests l)) (swept x l false 0)
