@@ -6,7 +6,8 @@ use Rattle.values.specs.declared.faults.Fault.{Fault}
 use Rattle.hosts.specs.Meaning.{Marks}
 use Rattle.stages.specs.Check.{pairs, Checked}
 use Rattle.soundness.specs.Paths.{begins}
-use Rattle.soundness.specs.Verdicts.{parcel, VerdictMeans}
+use Rattle.parcels.specs.Parts.{parcel}
+use Rattle.soundness.specs.Verdicts.{VerdictMeans}
 use Rattle.callers.specs.Relying.{height_of_start}
 
 -- the first entry of a list that has 0 there

@@ -9,11 +9,12 @@ use Rattle.parcels.specs.Layouts.{header, header_tests, flag_tests, flagged, lai
 use Rattle.parcels.specs.Parts.{Parts, split, parts_of}
 use Rattle.stages.specs.Check.{Question, question_on, checked}
 use Rattle.stages.proofs.Trust.{marks_length}
-use Rattle.soundness.specs.Verdicts.{parcel, IsValid}
+use Rattle.parcels.specs.Parts.{parcel}
+use Rattle.soundness.specs.Verdicts.{IsValid}
 use Rattle.soundness.proofs.Orders.{Silent, header_silent, flags_silent}
 use Rattle.soundness.proofs.Verdict.{every_verdict_means}
 use Rattle.semantics.specs.Steps.{RunView, CallAnswer}
-use Rattle.safety.specs.Opening.{Opened, open_tests, begun, laid_out_frame, opened_unless, opened_by, opened}
+use Rattle.semantics.specs.Opening.{Opened, open_tests, begun, laid_out_frame, opened_unless, opened_by, opened}
 use Rattle.safety.specs.Ready.{Ready}
 use Rattle.safety.proofs.Readiness.{accepted_ready}
 use Rattle.engine.specs.Decoding.{if_ok}

@@ -4,7 +4,7 @@ ghost use Rattle.values.specs.Order.{first, unless};
 ghost use Rattle.parcels.specs.Parts.{parts};
 ghost use Rattle.stages.specs.Check.{question_on, checked};
 ghost use Rattle.semantics.specs.Steps.{value_in};
-ghost use Rattle.safety.specs.Opening.{open_tests, opened, begun, laid_out_frame, empty};
+ghost use Rattle.semantics.specs.Opening.{open_tests, opened, begun, laid_out_frame, empty};
 ghost use Rattle.safety.specs.Histories.{ExtendsHistory};
 ghost use Rattle.safety.specs.Ready.{Ready};
 ghost use Rattle.safety.specs.Worked.{WorkedRuns};

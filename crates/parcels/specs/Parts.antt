@@ -6,7 +6,7 @@ use Rattle.parcels.specs.declared.layout.Layout.{Layout}
 use Rattle.parcels.specs.declared.layout.TheConstants.{HEADER_BYTES}
 use Rattle.parcels.specs.declared.literals.TheConstants.{LITERAL_BYTES}
 use Rattle.parcels.specs.declared.parts.Parcel.{Parcel}
-use Rattle.parcels.specs.Layouts.{layout_of}
+use Rattle.parcels.specs.Layouts.{header, laid_out, layout_of}
 
 -- a parcel taken apart
 pub record Parts : Type 0 where
@@ -25,6 +25,10 @@ split b l = record {
 -- the parts of a parcel, or the first header rule or flag rule that it breaks
 abbrev pub parts_of : List ℕ → Result Parts Fault
 parts_of b = and_then (layout_of b) (λ l. Ok (split b l))
+
+-- the layout, the literals and the code that bytes have, whatever they are
+abbrev pub parcel : List ℕ → Parts
+parcel b = split b (laid_out (header b))
 
 -- a parcel of the code, with what its references point to
 abbrev pub parts : Parcel → Parts

@@ -6,7 +6,7 @@ use Rattle.values.specs.declared.faults.Fault.{Fault}
 use Rattle.values.specs.declared.faults.Rule.TheVariants.{ArgumentsDiffer, FrameShort}
 use Rattle.parcels.specs.Parts.{Parts}
 use Rattle.stages.specs.Check.{question_on, checked}
-use Rattle.soundness.specs.Verdicts.{parcel}
+use Rattle.parcels.specs.Parts.{parcel}
 use Rattle.semantics.specs.Scripts.{Outcome as Way, continues, ends, stops}
 use Rattle.semantics.specs.declared.states.State.TheVariants.{Live}
 use Rattle.values.specs.declared.kinds.Value.{Value}
@@ -14,7 +14,7 @@ use Rattle.hosts.specs.Meaning.{Meaning, Marks, Sent, Kept, Like, marks_of, mark
 use Rattle.hosts.proofs.Cells.{like_same, like_trans}
 use Rattle.semantics.specs.Steps.{RunView, CallAnswer, moved, StepUnless, Step, step_tests, frame_cells, next_script}
 use Rattle.semantics.proofs.Executing.{like}
-use Rattle.safety.specs.Opening.{opened, opened_unless, opened_by, empty}
+use Rattle.semantics.specs.Opening.{opened, opened_unless, opened_by, empty}
 use Rattle.safety.specs.Histories.{HeldRuns, Call, takes, opens, steps, collects, History, new, called}
 use Rattle.safety.proofs.Safety.{every_history_is_safe}
 use Rattle.planning.specs.Keeping.{StaysWithin, Led, LeadsOn, Going}

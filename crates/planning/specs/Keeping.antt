@@ -7,7 +7,7 @@ use Rattle.hosts.specs.declared.rows.Row.{Row}
 use Rattle.semantics.specs.Steps.{RunView, Step, frame_cells}
 use Rattle.semantics.specs.declared.states.State.TheVariants.{Live}
 use Rattle.safety.specs.Histories.{History, Untrusted}
-use Rattle.safety.specs.Opening.{Opened}
+use Rattle.semantics.specs.Opening.{Opened}
 use Rattle.planning.specs.declared.options.Plan.{Plan}
 use Rattle.planning.specs.declared.texts.Outcome.{Outcome}
 use Rattle.planning.specs.declared.texts.Ran.{Ran}

@@ -4,7 +4,7 @@ use Rattle.values.specs.declared.faults.Fault.{Fault}
 use Rattle.values.specs.declared.kinds.Value.{Value}
 use Rattle.hosts.specs.Meaning.{Meaning, Sent}
 use Rattle.stages.specs.Check.{Question, question_on, checked}
-use Rattle.safety.specs.Opening.{Opened, opened, empty}
+use Rattle.semantics.specs.Opening.{Opened, opened, empty}
 use Rattle.stages.specs.declared.heights.TheConstants.{MAX_PAIRS}
 use Rattle.planning.specs.Frames.{frame_of}
 use Rattle.planning.specs.Keeping.{Played}

@@ -17,7 +17,8 @@ use Rattle.parcels.specs.declared.reading.Instruction.{Instruction}
 use Rattle.stages.specs.Encoding.{context, stores_trusted}
 use Rattle.soundness.specs.Paths.{Path, start, extend, ValidHeights}
 use Rattle.soundness.specs.Rules.{OperandFits, LandingFits, ValidInstruction}
-use Rattle.soundness.specs.Verdicts.{parcel, IsValid}
+use Rattle.parcels.specs.Parts.{parcel}
+use Rattle.soundness.specs.Verdicts.{IsValid}
 use Rattle.soundness.proofs.Transfers.{start_even, successor_is}
 use Rattle.soundness.proofs.Orders.{same_read}
 use Rattle.soundness.proofs.Readings.{spans, next_starts, first_starts}

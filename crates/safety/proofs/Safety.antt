@@ -10,14 +10,15 @@ use Rattle.hosts.specs.Meaning.{Meaning, Sent, Marks, Kept, Like, marks, marks_o
 use Rattle.hosts.proofs.Cells.{row_marks, open_trusted, kept_same, kept_trans, like_trans, like_same}
 use Rattle.stages.specs.Check.{Question, question_on, checked}
 use Rattle.stages.proofs.Trust.{marks_length}
-use Rattle.soundness.specs.Verdicts.{parcel, IsValid}
+use Rattle.parcels.specs.Parts.{parcel}
+use Rattle.soundness.specs.Verdicts.{IsValid}
 use Rattle.soundness.proofs.Orders.{first_none}
 use Rattle.soundness.proofs.Verdict.{every_verdict_means}
 use Rattle.semantics.specs.Steps.{RunView, CallAnswer, StepUnless, Step, step_tests, is_live, frame_cells, next_script}
 use Rattle.semantics.specs.declared.states.State.{State}
 use Rattle.semantics.specs.declared.states.State.TheVariants.{Live, Ended, Stopped}
 use Rattle.semantics.proofs.Executing.{like}
-use Rattle.safety.specs.Opening.{Opened, open_tests, opened_unless, opened_by, opened, begun, empty}
+use Rattle.semantics.specs.Opening.{Opened, open_tests, opened_unless, opened_by, opened, begun, empty}
 use Rattle.safety.specs.Histories.{HeldRuns, Holds, Call, takes, opens, steps, collects, History, new, called, OpensUntrusted, Untrusted, Safe, EveryHistoryIsSafe}
 use Rattle.safety.proofs.Readiness.{accepted_ready, accepted_open}
 use Rattle.safety.proofs.Stepping.{Sound, placed, Made, made, still_sound, progress, keeps}

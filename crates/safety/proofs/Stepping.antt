@@ -25,7 +25,8 @@ use Rattle.stages.specs.Encoding.{context, stores_trusted}
 use Rattle.stages.specs.Check.{Question, question_on, checked}
 use Rattle.stages.proofs.Trust.{marks_length}
 use Rattle.soundness.specs.Rules.{OperandFits, ValidInstruction}
-use Rattle.soundness.specs.Verdicts.{parcel, IsValid}
+use Rattle.parcels.specs.Parts.{parcel}
+use Rattle.soundness.specs.Verdicts.{IsValid}
 use Rattle.soundness.proofs.Orders.{first_none, same_read}
 use Rattle.semantics.specs.Scripts.{Access, write_cell, write_row, Script, act, read_cell, read_literal, given, sending, branching, must_be_boolean, Leaf, comes_to, Outcome, continues, ends, stops}
 use Rattle.semantics.specs.Execution.{Exec, Everywhere}
@@ -38,7 +39,7 @@ use Rattle.semantics.specs.declared.states.Stop.TheVariants.{NotUnderstood, NoBl
 use Rattle.semantics.proofs.Executing.{everywhere_leaf, everywhere_map, unwritten, like, kept}
 use Rattle.semantics.proofs.Operations.{Lands, MayStop, leads_to, script_laws}
 use Rattle.semantics.proofs.Telling.{Continues, send_told, branch_told, close_told}
-use Rattle.safety.specs.Opening.{Opened, open_tests, opened_unless, opened_by, opened, empty}
+use Rattle.semantics.specs.Opening.{Opened, open_tests, opened_unless, opened_by, opened, empty}
 use Rattle.safety.specs.Ready.{unmarked, Ready}
 use Rattle.safety.specs.Histories.{HeldRuns, Holds, counts_of, stack_of, top_of, message_on, Sends, short, selector, branch, MeetsNoBlock, WellPlaced, Progress, Call, takes, opens, steps, collects, History, new, called, OpensUntrusted, Untrusted, Safe, EveryHistoryIsSafe}
 use Rattle.safety.proofs.Permitting.{Permits, stack_at, all_in_use, all_in_bounds, all_open}

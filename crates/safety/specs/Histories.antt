@@ -20,7 +20,7 @@ use Rattle.semantics.specs.Steps.{RunView, CallAnswer, Step, frame_cells, workin
 use Rattle.semantics.specs.Laws.{Counts, Within, Stack, InUse, NotStuck}
 use Rattle.semantics.specs.declared.states.State.TheVariants.{Live, Stopped}
 use Rattle.semantics.specs.declared.states.Stop.TheVariants.{NotUnderstood, NoBlock}
-use Rattle.safety.specs.Opening.{opened, empty}
+use Rattle.semantics.specs.Opening.{opened, empty}
 
 -- the runs that the callers hold, by number; one that is gone leaves its number empty
 abbrev pub HeldRuns : Type 0

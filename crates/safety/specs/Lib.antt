@@ -1,4 +1,3 @@
-pub mod Opening
 pub mod Ready
 pub mod Histories
 pub mod Worked

@@ -10,7 +10,7 @@ use Rattle.semantics.specs.Steps.{RunView, CallAnswer, Step}
 use Rattle.semantics.specs.Scripts.{integer}
 use Rattle.semantics.specs.declared.states.State.TheVariants.{Ended, Stopped}
 use Rattle.semantics.specs.declared.states.Stop.TheVariants.{NotUnderstood}
-use Rattle.safety.specs.Opening.{Opened, opened, empty}
+use Rattle.semantics.specs.Opening.{Opened, opened, empty}
 use Rattle.safety.specs.Histories.{Sends}
 
 -- a host without cells that understands nothing

@@ -1,4 +1,5 @@
 pub mod Scripts
 pub mod Execution
 pub mod Steps
+pub mod Opening
 pub mod Laws

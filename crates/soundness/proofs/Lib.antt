@@ -1,9 +1,12 @@
 pub mod Transfers
-pub mod Visiting
-pub mod Examining
 pub mod Readings
+pub mod Operands
 pub mod Orders
 pub mod Sweeping
+pub mod Visiting
+pub mod Examining
+pub mod Heights
 pub mod Walking
-mod Only
+pub mod LiteralSearch
+pub mod Early
 pub mod Verdict

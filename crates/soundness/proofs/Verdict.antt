@@ -1,26 +1,30 @@
 -- Every verdict has its meaning.
+<<<<<<< HEAD
 use Rattle.std.proofs.Common.{◌≡◌, ℕ, zero, suc, ◌+◌, ◌%◌, ◌<◌, ◌≤◌, Bool, false, List, [], length, drop, replicate, Some, None, Ok, Err, Option, Result, sym, refl, ap, ◌∙◌, subst, inl, inr, arith}
 use Rattle.std.proofs.lemmas.Bool.{cases_eq, cases_lt}
 use Rattle.std.specs.Option.{option_or}
 use Rattle.values.specs.Order.{first, first_from, unless, and_then}
+=======
+use Rattle.std.proofs.Common.{◌≡◌, ℕ, ◌<◌, ◌≤◌, ◌≢◌, List, drop, Ok, Err, Option, Result, refl, ap, ◌∙◌, subst, inl, inr, arith}
+use Rattle.values.specs.Faults.{stage_of}
+>>>>>>> dc348a9a66ee316dbfd8a033704f46e827ff336a
 use Rattle.values.specs.declared.faults.Fault.{Fault}
-use Rattle.hosts.specs.Meaning.{Marks}
+use Rattle.values.specs.declared.faults.Stage.TheVariants.{Heights}
 use Rattle.parcels.specs.declared.layout.Kind.{Kind}
 use Rattle.parcels.specs.declared.layout.Kind.TheVariants.{Method, Block}
-use Rattle.parcels.specs.Layouts.{header_tests, flag_tests, flagged, laid_out, laid_as, limit_of}
-use Rattle.parcels.specs.Literals.{literal_tests, wrong}
-use Rattle.parcels.specs.Parts.{Parts, split}
-use Rattle.parcels.specs.declared.layout.Header.{Header}
-use Rattle.stages.specs.Encoding.{context}
-use Rattle.stages.specs.Sweep.{length_tests, swept}
-use Rattle.stages.specs.Examination.{examined, greatest}
-use Rattle.stages.specs.Check.{pairs, list_tests, admission_fault, admitted, judged, Checked, concluded, answered, checked}
-use Rattle.soundness.specs.Rules.{First, ValidHeader, ValidFlags, ValidLiteral, ValidLiterals, ValidEncoding}
-use Rattle.soundness.specs.Verdicts.{header, parcel, IsValid, ListsSuffice, HeightsOfPaths, FirstFault, at_header, at_flags, at_literal, at_lists, at_length, at_instruction, on_path, OnlyHeights, VerdictMeans, EveryVerdictMeans}
-use Rattle.soundness.proofs.Orders.{first_none, first_some, not_first, header_kept, header_silent, flags_kept, flags_silent, literal_kept, literal_silent, lists_kept, lists_silent, length_kept, length_silent}
-use Rattle.soundness.proofs.Sweeping.{Found, clear, stops, sweep_finds}
-use Rattle.soundness.proofs.Examining.{Kept, ResultIs, fine, broken, examination_is}
+use Rattle.parcels.specs.declared.layout.ParcelHeader.{ParcelHeader}
+use Rattle.parcels.specs.declared.layout.TheConstants.{MAX_SLOTS}
+use Rattle.parcels.specs.Layouts.{header, laid_out, laid_as, limit_of}
+use Rattle.stages.specs.Examination.{greatest_height}
+use Rattle.stages.specs.Check.{Question, pairs, Checked, concluded, checked}
+use Rattle.stages.specs.declared.heights.TheConstants.{NO_HEIGHT}
+use Rattle.soundness.specs.Paths.{ViolatesHeights, low, over, leaves, differ}
+use Rattle.soundness.specs.Rules.{ValidEncoding}
+use Rattle.soundness.specs.Verdicts.{asked_parcel, asked_code, asked_context, AskedIsValid, ListsSuffice, BeforeEncoding, HeightsOfPaths, OnlyHeights, FirstFault, on_path, VerdictMeans, EveryVerdictMeans}
+use Rattle.soundness.proofs.Examining.{ResultIs, fine, broken, examination_is}
+use Rattle.soundness.proofs.Heights.{only_heights}
 use Rattle.soundness.proofs.Walking.{keeps_heights, heights_are, refutes}
+<<<<<<< HEAD
 use Rattle.soundness.proofs.Only.{no_others, met, one_first}
 
 -- what is found of n literals from i on
@@ -73,15 +77,20 @@ module _ (m : Marks) (b : List ℕ) (h w : ℕ) where
 
   admission : Admission m b h w (admitted m b h w)
   admission = in_header (first (header_tests b)) refl
+=======
+use Rattle.soundness.proofs.Early as early
+use Rattle.soundness.proofs.Early.{early_fault, AnsweredBy, stopped, passed, answered_by, EarlyMeans, kept, early_means, none_valid, early_or_path}
+>>>>>>> dc348a9a66ee316dbfd8a033704f46e827ff336a
 
 -- slots are at most 252
-few_slots : (h : Header) → (laid_out h).slot_count ≤ 252
+few_slots : (h : ParcelHeader) → (laid_out h).slot_count ≤ MAX_SLOTS
 few_slots h = by h.kind
   where
-    by : (k : Kind) → (laid_as k h).slot_count ≤ 252
+    by : (k : Kind) → (laid_as k h).slot_count ≤ MAX_SLOTS
     by Method = omega arith
     by Block = omega arith
 
+<<<<<<< HEAD
 -- what the stages encoding and heights answer
 data Judgement (m : Marks) (t : Bool) (b : List ℕ) (h w : ℕ) : Result (List ℕ) Fault → Type 0 where
   accepted : (g : List ℕ) → IsValid m t b → 0 < length (parcel b).code → length (parcel b).code % 2 ≡ 0 → Kept (parcel b).code (limit_of (parcel b).layout) g [] → Judgement m t b h w (Ok g)
@@ -120,39 +129,99 @@ no_fault {b = b} {h = h} {w = w} (at_lists kh kf kl x) k l = not_first x (lists_
 no_fault {b = b} (at_length kh kf kl long x) k l = not_first x (length_silent (length (parcel b).code) k.in_encoding.some k.in_encoding.even)
 no_fault {m = m} {t = t} {b = b} (at_instruction kh kf kl long pos even p s before x) k l = met (context (parcel b) m t) p x (k.in_encoding.each p s)
 no_fault (on_path kh kf kl long ke x) k l = refutes x k.in_heights
+=======
+-- a broken height rule is a fault of the heights stage
+in_heights_stage : {code : List ℕ} {limit : ℕ} {f : Fault}
+    → ViolatesHeights code limit f → stage_of f.rule ≡ Heights
+in_heights_stage (low path t h) = refl
+in_heights_stage (over path t need h) = refl
+in_heights_stage (leaves path t need e) = refl
+in_heights_stage (differ path other ne) = refl
+>>>>>>> dc348a9a66ee316dbfd8a033704f46e827ff336a
 
 -- an answer: accepted or refused
-data Answer (m : Marks) (t : Bool) (b : List ℕ) (h w : ℕ) (c : Checked) : Type 0 where
-  yes : (top : ℕ) → c.verdict ≡ Ok top → IsValid m t b → ListsSuffice b h w → HeightsOfPaths (parcel b).code c.heights top → Answer m t b h w c
-  no : (f : Fault) → c.verdict ≡ Err f → FirstFault m t b h w f → Answer m t b h w c
+data Decided (q : Question) (c : Checked) : Type 0 where
+  accepted : (top : ℕ) → c.verdict ≡ Ok top → AskedIsValid q → ListsSuffice q
+      → HeightsOfPaths (asked_code q) c.heights top → Decided q c
+  refused : (f : Fault) → c.verdict ≡ Err f → FirstFault q f → Decided q c
 
-module _ (m : Marks) (t : Bool) (b hs ws : List ℕ) where
-  concludes : ListsSuffice b (length hs) (length ws) → {r : Result (List ℕ) Fault} → Judgement m t b (length hs) (length ws) r → Answer m t b (length hs) (length ws) (concluded (pairs (parcel b).code) hs ws r)
-  concludes long (accepted g k pos even kept) =
-      yes (greatest g) refl k long (heights_are (parcel b).code (limit_of (parcel b).layout) g (drop (pairs (parcel b).code) hs) (omega (arith, few_slots (header b))) pos even kept)
-  concludes long (refused {f} x) = no f refl x
+module _ (q : Question) where
+  low_limit : limit_of (asked_parcel q).layout < NO_HEIGHT
+  low_limit = omega (arith, few_slots (header q.bytes))
 
-  answers : {r : Result Parts Fault} → Admission m b (length hs) (length ws) r → Answer m t b (length hs) (length ws) (answered m t hs ws r)
-  answers (goes_in kh kf kl long) = concludes long (judgement m t b (length hs) (length ws) kh kf kl long)
-  answers (stays_out {f} x) = no f refl (x t)
+  -- the examination ended
+  examined_so : BeforeEncoding q → ValidEncoding (asked_context q)
+      → {r : Result (List ℕ) Fault} → ResultIs (asked_code q) (limit_of (asked_parcel q).layout) r
+      → Decided q (concluded (pairs (asked_code q)) q.heights q.waiting r)
+  examined_so k e (fine g x) =
+      let limit = limit_of (asked_parcel q).layout in
+      let valid : AskedIsValid q = record {
+        in_header = k.0.0.0;
+        in_flags = k.0.0.1;
+        in_literals = k.0.1;
+        in_encoding = e;
+        in_heights = keeps_heights (asked_code q) limit g low_limit e.some x;
+      } in
+      accepted (greatest_height g) refl valid k.1
+      (heights_are (asked_code q) limit g (drop (pairs (asked_code q)) q.heights)
+      low_limit e.some e.even x)
+  examined_so k e (broken f v) = refused f refl (on_path k e v)
 
-  means : (c : Checked) → Answer m t b (length hs) (length ws) c → VerdictMeans m t b (length hs) (length ws) c
-  means c (yes top e k long heights) = record {
-    keeps = λ x q. (k, long);
+  decided_by : {c : Checked} {o : Option Fault}
+      → o ≡ early_fault q → AnsweredBy q c → EarlyMeans q o → Decided q c
+  decided_by is (stopped f e v) (early.broken {f = g} x) =
+      let same : g ≡ f = cc in refused f v (subst (λ (y : Fault). FirstFault q y) same x)
+  decided_by is (stopped f e v) (kept k ke) = absurd cc
+  decided_by is (passed e) (early.broken x) = absurd cc
+  decided_by is (passed e) (kept k ke) =
+      examined_so k ke
+      (examination_is (asked_code q) (limit_of (asked_parcel q).layout) low_limit
+      (pairs (asked_code q)) (omega (arith, ke.even)) (omega (arith, ke.some, ke.even)))
+
+  decided : Decided q (checked q)
+  decided = decided_by refl (answered_by q) (early_means q)
+
+  -- no fault is found where every rule is kept
+  no_fault : {f : Fault} → FirstFault q f → AskedIsValid q → ListsSuffice q → ⊥
+  no_fault x k l = elim (early_or_path q x) [
+    | inl e ↦ (let n = none_valid q k l in absurd cc)
+    | inr v ↦ refutes v.1 k.in_heights
+  ]
+
+  -- of two first faults of which one is found before the heights, both are the same
+  same_first : {f g : Fault}
+      → FirstFault q f → FirstFault q g → stage_of g.rule ≢ Heights → f ≡ g
+  same_first x y ne = elim (early_or_path q y) [
+    | inr v ↦ absurd (ne (in_heights_stage v.1))
+    | inl e ↦ elim (early_or_path q x) [
+      | inl d ↦ cc
+      | inr v ↦ (let n = v.0 in absurd cc)
+    ]
+  ]
+
+  means : (c : Checked) → Decided q c → VerdictMeans q c
+  means c (accepted top e k long heights) = record {
+    keeps = λ x d. (k, long);
     accepts = λ k l. (top, e);
-    heights = λ x q. let same : top ≡ x = cc in subst (λ (y : ℕ). HeightsOfPaths (parcel b).code c.heights y) same heights;
-    no_others = λ x q. let same : top ≡ x = cc in subst (λ (y : ℕ). OnlyHeights (parcel b).code c.heights y) same (no_others (parcel b).code c.heights top heights);
-    refused = λ f q. absurd cc;
+    heights = λ x d.
+        let same : top ≡ x = cc in
+        subst (λ (y : ℕ). HeightsOfPaths (asked_code q) c.heights y) same heights;
+    no_others = λ x d.
+        let same : top ≡ x = cc in
+        subst (λ (y : ℕ). OnlyHeights (asked_code q) c.heights y) same
+        (only_heights (asked_code q) c.heights top heights);
+    refused = λ f d. absurd cc;
     one_first = λ f x ne. absurd (no_fault x k long);
   }
-  means c (no f e x) = record {
-    keeps = λ y q. absurd cc;
+  means c (refused f e x) = record {
+    keeps = λ y d. absurd cc;
     accepts = λ k l. absurd (no_fault x k l);
-    heights = λ y q. absurd cc;
-    no_others = λ y q. absurd cc;
-    refused = λ g q. let same : f ≡ g = cc in subst (λ (y : Fault). FirstFault m t b (length hs) (length ws) y) same x;
-    one_first = λ g y ne. e ∙ ap Err (sym (one_first m t b (length hs) (length ws) y ne x));
+    heights = λ y d. absurd cc;
+    no_others = λ y d. absurd cc;
+    refused = λ g d.
+        let same : f ≡ g = cc in subst (λ (y : Fault). FirstFault q y) same x;
+    one_first = λ g y ne. e ∙ ap Err (same_first x y ne);
   }
 
 pub every_verdict_means : EveryVerdictMeans
-every_verdict_means m t b hs ws = means m t b hs ws (checked m t b hs ws) (answers m t b hs ws (admission m b (length hs) (length ws)))
+every_verdict_means q = means q (checked q) (decided q)

@@ -1,44 +1,44 @@
 -- Paths through a code, and the height rules along them.
-use Rattle.std.specs.Prelude.{◌≡◌, ℕ, ◌+◌, ◌*◌, ◌<◌, ◌≤◌, ◌⊎◌, List, [], ◌∷◌, length, Some, None, Ok, Option, ◌≢◌}
+use Rattle.std.specs.Prelude.{◌≡◌, ℕ, ◌<◌, ◌≤◌, ◌⊎◌, List, [], ◌∷◌, length, Some, None, Ok, Option, ◌≢◌}
 use Rattle.values.specs.Faults.{fault}
 use Rattle.values.specs.declared.faults.Fault.{Fault}
 use Rattle.values.specs.declared.faults.Rule.TheVariants.{HeightLow, HeightOver, FallsOffEnd, HeightsDiffer}
 use Rattle.parcels.specs.Reading.{read_at}
 use Rattle.parcels.specs.Opcodes.{operation_of, effect_of, after, flow_of, successors_of}
+use Rattle.parcels.specs.Instructions.{InstructionAt, Among, successors}
 use Rattle.parcels.specs.declared.opcodes.Operation.{Operation}
 use Rattle.parcels.specs.declared.reading.Instruction.{Instruction}
 
--- the instruction i, which does o, stands at p
-pub record InstructionAt (code : List ℕ) (p : ℕ) (i : Instruction) (o : Operation) : Type 0 where
-  pub rest : List ℕ
-  pub read : read_at code p ≡ Ok (i, rest)
-  pub known : operation_of i.opcode ≡ Some o
-
--- s is one of the places in a list
-abbrev pub Among : ℕ → List (Option ℕ) → Type 0
-Among s [] = ⊥
-Among s (None ∷ ss) = Among s ss
-Among s (Some t ∷ ss) = (s ≡ t) ⊎ Among s ss
-
--- the successors of an instruction at p: its landing place, its following place, either, or none
-abbrev pub successors : List ℕ → ℕ → Instruction → Operation → List (Option ℕ)
-successors code p i o = successors_of code (flow_of o) (p + 2 * i.pairs) i.argument
-
--- a path reaches a place at a height: it begins at place 0 with height 0, and goes on to any successor at the height after
+-- a path reaches a place at a height: it starts at place 0 with height 0, and where the need of an
+-- instruction is met, it is extended to any successor at the height after
 pub data Path (code : List ℕ) : ℕ → ℕ → Type 0 where
-  begins : Path code 0 0
-  goes_on : {p h s : ℕ} {i : Instruction} {o : Operation} → Path code p h → InstructionAt code p i o → Among s (successors code p i o) → Path code s (after (effect_of o i) h)
+  start : Path code 0 0
+  extend : {p h s : ℕ} {i : Instruction} {o : Operation}
+      → Path code p h → InstructionAt code p i o → (effect_of o i).takes ≤ h
+      → Among s (successors code p i o) → Path code s (after (effect_of o i) h)
 
--- the height rules, along every path: the need is met, the height after is within the limit, no successor is the end of the code, and a place has one height
+-- the height rules, along every path: the need is met, the height after is within the limit, no
+-- successor is the end of the code, and a place has one height
 pub record ValidHeights (code : List ℕ) (limit : ℕ) : Type 0 where
-  pub need : {p h : ℕ} {i : Instruction} {o : Operation} → Path code p h → InstructionAt code p i o → (effect_of o i).takes ≤ h
-  pub within : {p h : ℕ} {i : Instruction} {o : Operation} → Path code p h → InstructionAt code p i o → after (effect_of o i) h ≤ limit
-  pub inside : {p h : ℕ} {i : Instruction} {o : Operation} → Path code p h → InstructionAt code p i o → Among (length code) (successors code p i o) → ⊥
+  pub need : {p h : ℕ} {i : Instruction} {o : Operation}
+      → Path code p h → InstructionAt code p i o → (effect_of o i).takes ≤ h
+  pub within : {p h : ℕ} {i : Instruction} {o : Operation}
+      → Path code p h → InstructionAt code p i o → after (effect_of o i) h ≤ limit
+  pub inside : {p h : ℕ} {i : Instruction} {o : Operation}
+      → Path code p h → InstructionAt code p i o → Among (length code) (successors code p i o) → ⊥
   pub one : {p h k : ℕ} → Path code p h → Path code p k → h ≡ k
 
--- a path breaks the height rule of a fault there
+-- a path breaks the height rule of a fault there; beyond a need that is not met it has no height
 pub data ViolatesHeights (code : List ℕ) (limit : ℕ) : Fault → Type 0 where
-  low : {p h : ℕ} {i : Instruction} {o : Operation} → Path code p h → InstructionAt code p i o → h < (effect_of o i).takes → ViolatesHeights code limit (fault HeightLow p)
-  over : {p h : ℕ} {i : Instruction} {o : Operation} → Path code p h → InstructionAt code p i o → limit < after (effect_of o i) h → ViolatesHeights code limit (fault HeightOver p)
-  leaves : {p h : ℕ} {i : Instruction} {o : Operation} → Path code p h → InstructionAt code p i o → Among (length code) (successors code p i o) → ViolatesHeights code limit (fault FallsOffEnd p)
-  differ : {p h k : ℕ} → Path code p h → Path code p k → (h ≢ k) → ViolatesHeights code limit (fault HeightsDiffer p)
+  low : {p h : ℕ} {i : Instruction} {o : Operation}
+      → Path code p h → InstructionAt code p i o → h < (effect_of o i).takes
+      → ViolatesHeights code limit (fault HeightLow p)
+  over : {p h : ℕ} {i : Instruction} {o : Operation}
+      → Path code p h → InstructionAt code p i o → (effect_of o i).takes ≤ h
+      → limit < after (effect_of o i) h → ViolatesHeights code limit (fault HeightOver p)
+  leaves : {p h : ℕ} {i : Instruction} {o : Operation}
+      → Path code p h → InstructionAt code p i o → (effect_of o i).takes ≤ h
+      → Among (length code) (successors code p i o)
+      → ViolatesHeights code limit (fault FallsOffEnd p)
+  differ : {p h k : ℕ} → Path code p h → Path code p k → (h ≢ k)
+      → ViolatesHeights code limit (fault HeightsDiffer p)

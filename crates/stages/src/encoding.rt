@@ -24,12 +24,12 @@ pub struct Site {
     pub after_block: bool,
 }
 
-// The chain use of a clean block. A chain use is any number that the flags hold; only this one and
-// the next have a meaning to the check.
-const CLEAN: u8 = 0;
+/// The chain use of a clean block, which asks neither for variables nor for the receiver.
+pub const CLEAN: u8 = 0;
 
-// The chain use that permits a method return.
-const RETURNING: u8 = 31;
+/// The chain use of a block that may end by a method return. Other chain uses mean nothing to the
+/// check.
+pub const RETURNING: u8 = 31;
 
 // Whether a literal is a selector with so many arguments.
 fn is_selector(literal: Option<Literal>, count: u32) -> bool

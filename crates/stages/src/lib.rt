@@ -8,4 +8,5 @@ mod heights;
 mod sweep;
 
 pub use checking::pass_stages;
+pub use encoding::{CLEAN, RETURNING};
 pub use heights::{MAX_PAIRS, NO_HEIGHT};

@@ -5,7 +5,7 @@ use Rattle.parcels.specs.Parts.{Parts, parts}
 use Rattle.stages.proofs.Exits.{passed_on}
 use Rattle.stages.specs.Check.{question_on}
 use Rattle.semantics.specs.Steps.{RunView}
-use Rattle.safety.specs.Opening.{Opened, opened}
+use Rattle.semantics.specs.Opening.{Opened, opened}
 use Rattle.safety.specs.Histories.{ExtendsHistory, History, called, opens}
 use Rattle.safety.specs.Ready.{Ready}
 use Rattle.engine.specs.View.{view}

@@ -10,7 +10,7 @@ use Rattle.parcels.specs.Parts.{Parts}
 use Rattle.parcels.specs.declared.layout.CodeKind.TheVariants.{Method}
 use Rattle.parcels.specs.declared.opcodes.Ending.TheVariants.{Return}
 use Rattle.stages.specs.Check.{Question, checked}
-use Rattle.soundness.specs.Verdicts.{parcel}
+use Rattle.parcels.specs.Parts.{parcel}
 use Rattle.semantics.specs.Steps.{RunView, frame_cells, working_base}
 use Rattle.semantics.specs.declared.states.State.TheVariants.{Live, Ended}
 
