@@ -3,11 +3,7 @@
 use Rattle.std.proofs.Common.{◌≡◌, ◌↔◌, ℕ, zero, suc, ◌+◌, ◌%◌, ◌<◌, ◌≤◌, Bool, true, false, cond, leb, ◌⊎◌, List, length, Some, None, Ok, Err, Option, sym, refl, ap, subst, inl, inr, arith}
 use Rattle.std.specs.Option.{option_or}
 use Rattle.std.proofs.lemmas.Bool.{leb-true, leb-false, cases_lt, cases_order}
-<<<<<<< HEAD
-use Rattle.std.specs.Option.{option_or}
-=======
 use Rattle.values.specs.Faults.{fault}
->>>>>>> dc348a9a66ee316dbfd8a033704f46e827ff336a
 use Rattle.values.specs.Order.{first}
 use Rattle.values.specs.declared.faults.Fault.{Fault}
 use Rattle.parcels.specs.Opcodes.{operation_of}
@@ -125,13 +121,6 @@ module _ (x : Context) where
       (next_starts (spans x.parts.code p i rest read) (start_even x.parts.code p starts))
       (tells p starts i rest read))
     where
-<<<<<<< HEAD
-      tested : (i : Instruction) (rest : List ℕ) → read_at x.parts.code p ≡ Ok (i, rest) → starts_at x.parts.code p ≡ true
-          → Found x (p + 2 * i.pairs) (swept x n (pushes_block x.parts.literals i) (p + 2 * i.pairs))
-          → (o : Option Fault) → first (site_tests x (site p b i) (operation_of i.opcode)) ≡ o → Found x p (option_or o (swept x n (pushes_block x.parts.literals i) (p + 2 * i.pairs)))
-      tested i rest read starts further (Some f) e = stops p (omega arith) starts (λ r l g t. absurd (omega arith)) (breaks i rest b f read to from (first_some _ f e))
-      tested i rest read starts further None e = onward p starts i rest read (rules_kept x p b i rest read to (first_none _ e)) further
-=======
       -- what is found behind an instruction
       further : Instruction → Option Fault
       further i = swept x n (pushes_block x.parts.literals i) (following p i)
@@ -150,7 +139,6 @@ module _ (x : Context) where
           stops_here p starts (breaks i rest b f read word (first_some _ f e))
       tested i rest read starts next None e =
           onward p starts i rest read (rules_kept x p b i rest read word.0 (first_none _ e)) next
->>>>>>> dc348a9a66ee316dbfd8a033704f46e827ff336a
 
       reading : (r : Reading) → read_at x.parts.code p ≡ r → starts_at x.parts.code p ≡ true
           → Further → SweepFinds x p (found_at x (swept x n) b p r)

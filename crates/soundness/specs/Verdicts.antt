@@ -1,11 +1,6 @@
 -- What a verdict means.
-<<<<<<< HEAD
-use Rattle.std.specs.Prelude.{◌≡◌, ℕ, ◌*◌, ◌%◌, ◌<◌, ◌≤◌, Bool, true, List, length, Ok, Err, ◌≢◌, slice_index}
-use Rattle.values.specs.Faults.{rule_stage}
-=======
 use Rattle.std.specs.Prelude.{◌≡◌, ◌↔◌, ℕ, ◌*◌, ◌%◌, ◌<◌, ◌≤◌, Bool, true, List, length, Some, Ok, Err, ◌≢◌, slice_index}
-use Rattle.values.specs.Faults.{stage_of}
->>>>>>> dc348a9a66ee316dbfd8a033704f46e827ff336a
+use Rattle.values.specs.Faults.{rule_stage}
 use Rattle.values.specs.declared.faults.Fault.{Fault}
 use Rattle.values.specs.declared.faults.Stage.TheVariants.{Heights}
 use Rattle.hosts.specs.Meaning.{Marks, Meaning, marks_of}
@@ -47,17 +42,6 @@ OnlyHeights code hs top =
 abbrev pub asked_parcel : Question → Parts
 asked_parcel q = parcel q.bytes
 
-<<<<<<< HEAD
--- what a check's answer c means: accepted exactly if every rule is kept, with the heights of the paths and no others, and refused with the first fault; before the
--- heights, where several paths may each break a rule, no other fault is the first
-pub record VerdictMeans (m : Marks) (t : Bool) (b : List ℕ) (h w : ℕ) (c : Checked) : Type 0 where
-  pub keeps : (top : ℕ) → c.verdict ≡ Ok top → IsValid m t b × ListsSuffice b h w
-  pub accepts : IsValid m t b → ListsSuffice b h w → (top : ℕ) × (c.verdict ≡ Ok top)
-  pub heights : (top : ℕ) → c.verdict ≡ Ok top → HeightsOfPaths (parcel b).code c.heights top
-  pub no_others : (top : ℕ) → c.verdict ≡ Ok top → OnlyHeights (parcel b).code c.heights top
-  pub refused : (f : Fault) → c.verdict ≡ Err f → FirstFault m t b h w f
-  pub one_first : (f : Fault) → FirstFault m t b h w f → rule_stage f.rule ≢ Heights → c.verdict ≡ Err f
-=======
 -- its code
 abbrev pub asked_code : Question → List ℕ
 asked_code q = (asked_parcel q).code
@@ -124,8 +108,7 @@ pub record VerdictMeans (q : Question) (c : Checked) : Type 0 where
   pub heights : (top : ℕ) → c.verdict ≡ Ok top → HeightsOfPaths (asked_code q) c.heights top
   pub no_others : (top : ℕ) → c.verdict ≡ Ok top → OnlyHeights (asked_code q) c.heights top
   pub refused : (f : Fault) → c.verdict ≡ Err f → FirstFault q f
-  pub one_first : (f : Fault) → FirstFault q f → stage_of f.rule ≢ Heights → c.verdict ≡ Err f
->>>>>>> dc348a9a66ee316dbfd8a033704f46e827ff336a
+  pub one_first : (f : Fault) → FirstFault q f → rule_stage f.rule ≢ Heights → c.verdict ≡ Err f
 
 -- every verdict has its meaning
 abbrev pub EveryVerdictMeans : Type 0

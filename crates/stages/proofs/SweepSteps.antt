@@ -4,10 +4,6 @@ use Rattle.std.proofs.lemmas.Bool.{cond-true, cond-false, le-leb, lt-leb}
 use Rattle.std.specs.Option.{option_or}
 use Rattle.std.specs.Result.{MatchResult}
 use Rattle.values.specs.Faults.{fault}
-<<<<<<< HEAD
-use Rattle.std.specs.Option.{option_or}
-=======
->>>>>>> dc348a9a66ee316dbfd8a033704f46e827ff336a
 use Rattle.values.specs.Order.{unless, and_then}
 use Rattle.values.specs.declared.faults.Fault.{Fault}
 use Rattle.parcels.specs.Reading.{Reading, read_at, unreadable_rule}

@@ -2,10 +2,6 @@
 use Rattle.std.specs.Prelude.{ℕ, zero, suc, ◌+◌, ◌-◌, ◌*◌, ◌%◌, Bool, true, false, if◌then◌else◌, ◌&&◌, List, [], ◌∷◌, length, Some, None, Ok, Err, Option, ◌==◌, nat_le}
 use Rattle.std.specs.Option.{option_or}
 use Rattle.values.specs.Faults.{fault}
-<<<<<<< HEAD
-use Rattle.std.specs.Option.{option_or}
-=======
->>>>>>> dc348a9a66ee316dbfd8a033704f46e827ff336a
 use Rattle.values.specs.Order.{Test, test, first}
 use Rattle.values.specs.declared.faults.Fault.{Fault}
 use Rattle.values.specs.declared.faults.Rule.TheVariants.{CodeCut}
