@@ -134,12 +134,12 @@ impl<'a> Run<'a> {
     }
 
     // Moves a live run by the result of its step.
-    fn settle(&mut self, result: StepResult)
+    fn settle(&mut self, performed: StepResult)
         requires live { self.old.state ≡ Live }
-        requires ready { ContinuesReady (view self.old) result }
-        ensures { view self.new ≡ moved (view self.old) (outcome_of result) }
+        requires ready { ContinuesReady (view self.old) performed }
+        ensures { view self.new ≡ moved (view self.old) (outcome_of performed) }
     {
-        match result {
+        match performed {
             StepResult::Continued { place, height } => {
                 self.place = place;
                 self.height = height;
