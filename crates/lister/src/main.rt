@@ -1,4 +1,5 @@
-// Reads one parcel from standard input to its end, and prints one line: the verdict over the fixed week file.
+// Reads one parcel from standard input to its end, and prints one line: the verdict over the fixed
+// week file.
 #![tactic(auto)]
 
 use listing::list;

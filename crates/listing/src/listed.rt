@@ -1,15 +1,16 @@
 // One parcel over a host, and over a week file that is always the same.
 ghost use Rattle.std.specs.Prelude.{◌≡◌, IfOk};
-ghost use Rattle.hosts.specs.Meaning.{marks_of};
-ghost use Rattle.listing.specs.Listed.{week, verdict_on, listed, Tried};
+ghost use Rattle.listing.specs.Listed.{fixed_week, verdict_on, listed, WorkedVerdicts};
 
 use crate::verdicts::Verdict;
 use checker::check;
 use hosts::Host;
+use stages::MAX_PAIRS;
 use std::alloc::{AllocError, Global};
 use week_file::WeekFile;
 
-// Four variables and two bindings, all nil, and receiver object 0; variable 3 and binding 1 are trusted.
+// Four variables and two bindings, all nil, and receiver object 0; variable 3 and binding 1 are
+// trusted.
 const WEEK: [u8; 44] = [
     0, 4, 0, 2, 0, 0, 0, 0, 0, 0, 0, 0, 0, 0, 0, 0, 0, 0, 0, 0, 0, 0, 0, 0, 0, 0, 1, 0, 0, 0, 0, 0,
     0, 0, 0, 0, 0, 0, 1, 0, 0, 0, 0, 0,
@@ -17,24 +18,25 @@ const WEEK: [u8; 44] = [
 
 // The fixed week file as a host.
 fn fixed_file(heap: Global) -> Result<WeekFile, AllocError>
-    ensures { IfOk result (λ h. h.bytes.items ≡ week) }
+    ensures { IfOk result (λ h. h.bytes.items ≡ fixed_week) }
 {
     Ok(WeekFile::open(WEEK.to_vec(heap)?))
 }
 
-// What a check of a parcel finds over a host. 2,048 entries are enough for every code, and lie on the stack: a check asks for no memory.
+/// What a check of a parcel finds over a host. The lists suffice for every code and lie on the
+/// stack: a check asks for no memory.
 pub fn verdict_of<H: Host>(host: &H, parcel: &[u8], trusted: bool) -> Verdict
-    ensures { result ≡ verdict_on (marks_of (H.means host.now)) trusted 2048 parcel.now }
+    ensures { result ≡ verdict_on (H.means host.now) trusted MAX_PAIRS parcel.now }
 {
-    let mut heights = [0u8; 2048];
-    let mut waiting = [0u16; 2048];
+    let mut heights = [0u8; MAX_PAIRS];
+    let mut waiting = [0u16; MAX_PAIRS];
     Verdict(check(host, parcel, trusted, &mut heights, &mut waiting))
 }
 
-// The verdict on an untrusted parcel over the fixed week file.
+/// The verdict on an untrusted parcel over the fixed week file; an error if memory runs out.
 pub fn list(heap: Global, parcel: &[u8]) -> Result<Verdict, AllocError>
     ensures answer { IfOk result (λ v. v ≡ listed parcel.now) }
-    ensures tried { Tried }
+    ensures worked { WorkedVerdicts }
 {
     let host = fixed_file(heap)?;
     Ok(verdict_of(&host, parcel, false))

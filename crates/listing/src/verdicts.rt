@@ -5,7 +5,7 @@ ghost use Rattle.listing.specs.Lines.{line};
 use std::fmt;
 use values::Fault;
 
-// The greatest height of what was accepted, or why it was refused.
+/// The greatest height of what was accepted, or why it was refused.
 #[derive(Clone, Copy)]
 pub struct Verdict(pub Result<u8, Fault>);
 
