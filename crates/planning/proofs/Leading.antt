@@ -38,7 +38,7 @@ module _ {S : Type 0} (means : S → Meaning) (may : S → Sent → Value → S 
   begun t s b args f hs ws run run' e e' =
       subst⁻¹ (λ (r : RunView). Led means may t s s r) (e' ∙ ap (λ (r : RunView). (opened (question_on (means s) t b hs ws) args f r).run) e) (record {
         past = called (called new takes) (opens 0 empty refl t b hs ws args f);
-        untrusted = λ q. ((λ _. q), tt, tt);
+        untrusted = λ q. ((λ _. q), (tt, tt));
       })
 
   -- what never changes of a host, over a step
