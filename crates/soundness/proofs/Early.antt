@@ -11,7 +11,8 @@ use Rattle.stages.specs.Check.{Question, pairs, list_tests, admission_fault, par
 use Rattle.soundness.specs.Paths.{ViolatesHeights}
 use Rattle.soundness.specs.Rules.{ValidHeader, ValidEncoding}
 use Rattle.soundness.specs.Verdicts.{asked_parcel, asked_code, asked_context, AskedIsValid, ListsSuffice, BeforeLiterals, BeforeLists, BeforeEncoding, FirstFault, at_header, at_flags, at_literal, at_lists, at_length, at_instruction, on_path}
-use Rattle.soundness.proofs.Orders.{first_none, first_some, first_is, silent_none, header_kept, header_silent, flags_kept, flags_silent, lists_kept, lists_silent, length_kept, length_silent}
+use Rattle.soundness.proofs.Orders.{first_none, first_some, silent_none, header_kept, header_silent, flags_kept, flags_silent, lists_kept, lists_silent, length_kept, length_silent}
+use Rattle.soundness.proofs.OneFirst.{first_is}
 use Rattle.soundness.proofs.LiteralSearch.{LiteralsFind, nothing, wrong_at, literals_find, literals_one, literals_none}
 use Rattle.soundness.proofs.Sweeping as sweeping
 use Rattle.soundness.proofs.Sweeping.{SweepFinds, whole_sweep, sweep_one, sweep_none}

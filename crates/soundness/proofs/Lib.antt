@@ -2,6 +2,7 @@ pub mod Transfers
 pub mod Readings
 pub mod Operands
 pub mod Orders
+pub mod OneFirst
 pub mod Sweeping
 pub mod Visiting
 pub mod Examining

@@ -6,7 +6,8 @@ use Rattle.values.specs.Order.{first, first_from}
 use Rattle.values.specs.declared.faults.Fault.{Fault}
 use Rattle.parcels.specs.Literals.{literal_tests, literal_fault}
 use Rattle.soundness.specs.Rules.{First, ValidLiteral}
-use Rattle.soundness.proofs.Orders.{first_none, first_some, first_one, not_first, literal_kept, literal_silent}
+use Rattle.soundness.proofs.Orders.{first_none, first_some, literal_kept, literal_silent}
+use Rattle.soundness.proofs.OneFirst.{first_one, not_first}
 
 -- what is found of n literals from i on
 pub data LiteralsFind (ls : List ℕ) (bindings i n : ℕ) : Option Fault → Type 0 where

@@ -47,22 +47,6 @@ first_some (t ∷ ts) f e = by (first_some ts f) t.applies refl e
         let same : t.finds ≡ f = cc in subst (λ (x : Fault). First (t ∷ ts) x) same (here g)
     by more false g q = later g (more q)
 
-pub first_is : {ts : List Test} {f : Fault} → First ts f → first ts ≡ Some f
-first_is (here {t} {ts} e) = ap (λ (b : Bool). cond b (Some t.finds) (first ts)) e
-first_is (later {t} {ts} e g) =
-    ap (λ (b : Bool). cond b (Some t.finds) (first ts)) e ∙ first_is g
-
--- of tests in order, one is the first that applies
-pub first_one : {ts : List Test} {f g : Fault} → First ts f → First ts g → f ≡ g
-first_one x y = let e = first_is x in let d = first_is y in cc
-
-pub not_first : {ts : List Test} {f : Fault} → First ts f → Silent ts → ⊥
-not_first {ts} x s =
-    let e = first_is x in
-    let d = silent_none ts s in
-    let z : ◌≡◌ {A = ℕ} 0 1 = cc in
-    omega arith
-
 and_false : (x y : Bool) → (x && y) ≡ false → x ≡ true → y ≡ false
 and_false true y e f = e
 and_false false y e f = absurd cc

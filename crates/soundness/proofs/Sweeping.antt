@@ -15,7 +15,8 @@ use Rattle.stages.specs.Sweep.{pushes_block, following, site, found_at, swept}
 use Rattle.soundness.specs.Rules.{First, AfterBlock, ValidInstruction, FirstViolation, unread, breaks}
 use Rattle.soundness.proofs.Transfers.{start_even, start_below}
 use Rattle.soundness.proofs.Readings.{spans, none_inside, next_starts, first_starts}
-use Rattle.soundness.proofs.Orders.{first_none, first_some, first_one, not_first, rules_kept, rules_silent, same_read}
+use Rattle.soundness.proofs.Orders.{first_none, first_some, rules_kept, rules_silent, same_read}
+use Rattle.soundness.proofs.OneFirst.{first_one, not_first}
 
 -- the instructions from p on keep the rules, as far as q
 abbrev pub ValidBetween : Context → ℕ → ℕ → Type 0

@@ -4,7 +4,7 @@ use Rattle.values.specs.Faults.{rule_stage}
 use Rattle.values.specs.declared.faults.Fault.{Fault}
 use Rattle.values.specs.declared.faults.Stage.TheVariants.{Heights}
 use Rattle.hosts.specs.Meaning.{Marks, Meaning, marks_of}
-use Rattle.parcels.specs.Layouts.{header, header_tests, flag_tests, laid_out, limit_of}
+use Rattle.parcels.specs.Layouts.{header, header_tests, flag_tests, limit_of}
 use Rattle.parcels.specs.Literals.{literal_tests}
 use Rattle.parcels.specs.Parts.{Parts, parcel}
 use Rattle.parcels.specs.Reading.{starts_at}
