@@ -1,5 +1,5 @@
 -- What callers rely on follows from the clauses of a step.
-use Rattle.std.proofs.Common.{◌≡◌, ℕ, ◌+◌, ◌*◌, ◌/◌, ◌≤◌, true, false, not, List, length, slice_index_or, Some, None, Ok, Err, Option, Result, sym, refl, ap, subst, arith}
+use Rattle.std.proofs.Common.{◌≡◌, ℕ, ◌*◌, ◌/◌, ◌≤◌, true, false, not, List, length, slice_index_or, Some, None, Ok, Err, Option, Result, sym, refl, ap, subst, arith}
 use Rattle.std.specs.Prelude.{◌↔◌}
 use Rattle.std.proofs.lemmas.List.{get_or-set_same}
 use Rattle.std.proofs.lemmas.Option.{none-some, same_Some}
@@ -16,7 +16,7 @@ use Rattle.soundness.specs.Paths.{Path}
 use Rattle.soundness.proofs.Transfers.{start_even}
 use Rattle.soundness.proofs.Orders.{first_none}
 use Rattle.semantics.specs.Execution.{Exec}
-use Rattle.semantics.specs.Laws.{Counts, Within, ScriptLaws}
+use Rattle.semantics.specs.Laws.{Within, ScriptLaws}
 use Rattle.semantics.specs.Scripts.{Outcome}
 use Rattle.semantics.specs.Steps.{RunView, CallAnswer, StepUnless, Step, step_tests, is_live, frame_cells, script_for, script_read}
 use Rattle.semantics.specs.declared.states.State.{State}

@@ -7,7 +7,7 @@ use Rattle.values.specs.declared.kinds.Value.{Value}
 use Rattle.hosts.specs.Meaning.{Meaning, marks_of}
 use Rattle.parcels.specs.Layouts.{header, header_tests, flag_tests, flagged, laid_out}
 use Rattle.parcels.specs.Parts.{Parts, split, parts_of}
-use Rattle.stages.specs.Check.{Question, question_on, checked}
+use Rattle.stages.specs.Check.{question_on, checked}
 use Rattle.stages.proofs.Trust.{marks_length}
 use Rattle.parcels.specs.Parts.{parcel}
 use Rattle.soundness.specs.Verdicts.{IsValid}

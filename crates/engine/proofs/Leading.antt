@@ -1,15 +1,12 @@
 -- Where the next instruction leads.
-use Rattle.std.proofs.Common.{◌≡◌, ℕ, ◌+◌, ◌*◌, ◌≤◌, ◌∙◌, List, Some, None, Ok, Option, ap, sym, subst}
+use Rattle.std.proofs.Common.{◌≡◌, ℕ, ◌+◌, ◌*◌, ◌∙◌, List, Some, None, Ok, Option, ap, subst}
 use Rattle.values.specs.declared.kinds.Value.{Value}
 use Rattle.hosts.specs.Meaning.{Meaning, Sent}
-use Rattle.parcels.specs.Instructions.{Among, successors}
-use Rattle.parcels.specs.Opcodes.{effect_of, after}
-use Rattle.parcels.specs.Parts.{Parts, parts}
+use Rattle.parcels.specs.Parts.{Parts}
 use Rattle.parcels.specs.declared.opcodes.Operation.{Operation}
 use Rattle.semantics.specs.Execution.{Exec}
 use Rattle.semantics.specs.Scripts.{Script, script_of}
 use Rattle.semantics.specs.Steps.{RunView, code_context_of, script_at}
-use Rattle.semantics.specs.Laws.{ScriptLaws}
 use Rattle.semantics.specs.declared.states.State.TheVariants.{Live}
 use Rattle.semantics.proofs.Operations.{script_laws}
 use Rattle.safety.specs.Ready.{Ready}

@@ -76,7 +76,7 @@ WorkedVerdicts =
     × (verdict_plain (44 ∷ 1 ∷ 40 ∷ 4 ∷ []) ≡ verdict (Err (fault HeightsDiffer 0)))
     × (verdict_plain (41 ∷ 1 ∷ 56 ∷ 0 ∷ 51 ∷ 0 ∷ []) ≡ verdict (Err (fault LandingWrong 0)))
     × (verdict_plain (41 ∷ 2 ∷ 55 ∷ 0 ∷ 56 ∷ 0 ∷ 51 ∷ 0 ∷ [])
-      ≡ verdict (Err (fault LandingWrong 0)))
+    ≡ verdict (Err (fault LandingWrong 0)))
     × (verdict_plain (56 ∷ 0 ∷ 39 ∷ 2 ∷ 51 ∷ 0 ∷ []) ≡ verdict (Ok 1))
     × (verdict_plain (56 ∷ 0 ∷ 39 ∷ 3 ∷ 51 ∷ 0 ∷ []) ≡ verdict (Err (fault StoreTrusted 2)))
     × (verdict_plain (55 ∷ 3 ∷ 44 ∷ 232 ∷ 51 ∷ 0 ∷ []) ≡ verdict (Ok 1))

@@ -58,8 +58,12 @@ fn announce(rt: &impl Print, trace: bool, number: u64, run: &Run) -> io::Result<
 
 // Where a run is after so many steps.
 fn ran_for(run: &Run, steps: u64) -> Ran
-    ensures { result ≡ record { state = (view run.now).state; place = (view run.now).place; steps =
-        steps } }
+    ensures { result ≡ record {
+      state = (view run.now).state;
+      place = (view run.now).place;
+      steps =
+          steps;
+    } }
 {
     Ran {
         state: run.state(),

@@ -1,5 +1,5 @@
 -- What the script of an instruction that keeps the rules reads and writes.
-use Rattle.std.proofs.Common.{◌≡◌, ℕ, zero, suc, ◌+◌, ◌-◌, ◌*◌, ◌/◌, ◌%◌, ◌<◌, ◌≤◌, Bool, true, false, cond, ltb, ◌⊎◌, List, [], length, pos, Some, None, Option, sym, refl, ap, subst, inl, inr, arith}
+use Rattle.std.proofs.Common.{◌≡◌, ℕ, zero, suc, ◌+◌, ◌-◌, ◌*◌, ◌/◌, ◌%◌, ◌<◌, ◌≤◌, Bool, true, false, cond, ltb, List, [], length, pos, Some, None, Option, sym, refl, ap, subst, inl, inr, arith}
 use Rattle.std.specs.Option.{option_map}
 use Rattle.std.proofs.lemmas.Bool.{ltb-false, lt-ltb}
 use Rattle.values.specs.Small.{in_range, small_if}
@@ -24,12 +24,12 @@ use Rattle.parcels.specs.declared.opcodes.Operation.TheVariants.{Send, SendSelec
 use Rattle.parcels.specs.declared.reading.Instruction.{Instruction}
 use Rattle.stages.specs.Encoding.{stores_trusted, names_trusted}
 use Rattle.soundness.specs.Rules.{OperandFits, LandingFits}
-use Rattle.semantics.specs.Scripts.{Access, read_cell, read_cells, write_cell, read_literal, read_row, write_row, send, Leaf, Script, act, given, special, integer, must_be_boolean, from_source, pushing, sending}
+use Rattle.semantics.specs.Scripts.{Access, read_cell, read_cells, write_cell, read_literal, read_row, write_row, Script, given, special, integer, must_be_boolean, from_source, pushing, sending}
 use Rattle.semantics.specs.Execution.{Everywhere}
 use Rattle.semantics.specs.Steps.{code_context_of, working_base, frame_cells, script_at}
 use Rattle.semantics.specs.Laws.{Counts, row_count, InBounds, Stack, InUse, NotStuck}
 use Rattle.semantics.proofs.Executing.{WritesOpen, everywhere_map}
-use Rattle.semantics.proofs.Operations.{either, chosen, closed, replied}
+use Rattle.semantics.proofs.Operations.{chosen, closed, replied}
 
 -- a literal that is there has a number below the count
 pub literal_there : (ls : List ℕ) (n k : ℕ) (l : Literal) → length ls ≡ 6 * n → literal ls k ≡ Some l → k < n
@@ -105,9 +105,17 @@ module _ (p : Parts) (q h : ℕ) (i : Instruction) where
 
       sends : (o : Operation) (super : Bool) (n c : ℕ) → (effect_of o i).takes ≡ c + 1 → c + 1 ≤ h
           → Permits o (sending (code_context_of p) i next h super n c)
-      sends o super n c t need =
-          (omega (arith, need), λ r. (omega (arith, need), λ xs. (tt, λ a.
-          replied (Permits o) (message super n r xs) a tt (λ v. (inr (omega (arith, need, t), inl (omega (arith, need))), λ _. tt)))))
+      sends o super n c t need = (
+        omega (arith, need),
+        λ r. (
+          omega (arith, need),
+          λ xs. (
+            tt,
+            λ a.
+                replied (Permits o) (message super n r xs) a tt (λ v. (inr (omega (arith, need, t), inl (omega (arith, need))), λ _. tt)),
+          ),
+        ),
+      )
 
       sourced : (o : Operation) (s : Source) (k : Value → Script)
           → OperandFits p variables i.argument (Push s) → ((v : Value) → Permits o (k v))
@@ -138,7 +146,7 @@ module _ (p : Parts) (q h : ℕ) (i : Instruction) where
           let e = fit.1 in (
             literal_there p.literals p.layout.literal_count (i.argument / 256) (Selector fit.0 (i.argument % 256)) long e,
             there (Permits (SendSelector s)) _ (selector_of (literal p.literals (i.argument / 256))) fit.0 (ap selector_of e)
-            (sends (SendSelector s) s fit.0 (i.argument % 256) refl need),
+                (sends (SendSelector s) s fit.0 (i.argument % 256) refl need),
           )
       permitted (Push s) fit lands need =
           sourced (Push s) s (pushing (code_context_of p) i next h) fit (λ v. pushes (Push s) v (omega arith) (omega arith))
@@ -146,17 +154,24 @@ module _ (p : Parts) (q h : ℕ) (i : Instruction) where
       permitted (Store target.Binding) fit lands need =
           let e = fit.1 in (
             literal_there p.literals p.layout.literal_count i.argument (Binding fit.0) long e,
-            there (Permits (Store target.Binding)) _ (binding_of (literal p.literals i.argument)) fit.0 (ap binding_of e)
-            (omega (arith, need), λ v. ((bound i.argument fit.0 e, e), λ _.
-            (inr (omega (arith, need), inl (omega (arith, need))), λ _. tt))),
+            there (Permits (Store target.Binding)) _ (binding_of (literal p.literals i.argument)) fit.0 (ap binding_of e) (
+              omega (arith, need),
+              λ v. (
+                (bound i.argument fit.0 e, e),
+                λ _.
+                    (inr (omega (arith, need), inl (omega (arith, need))), λ _. tt),
+              ),
+            ),
           )
       permitted (Store target.Variable) fit lands need = (omega (arith, need), λ v. ((fit, refl), λ _. tt))
       permitted (Jump d) fit lands need =
           there (Permits (Jump d)) _ (landing_of p.code d next i.argument) lands.0 lands.1 tt
       permitted (Branch w) fit lands need =
-          there (Permits (Branch w)) _ (landing_of p.code Forward next i.argument) lands.0 lands.1
-          (omega (arith, need), λ v. chosen (Permits (Branch w)) v tt tt
-          (tt, λ a. replied (Permits (Branch w)) (message false must_be_boolean v []) a tt (λ x. tt)))
+          there (Permits (Branch w)) _ (landing_of p.code Forward next i.argument) lands.0 lands.1 (
+            omega (arith, need),
+            λ v. chosen (Permits (Branch w)) v tt tt
+                (tt, λ a. replied (Permits (Branch w)) (message false must_be_boolean v []) a tt (λ x. tt)),
+          )
       permitted Pop fit lands need = tt
       permitted Duplicate fit lands need = (omega (arith, need), λ v. pushes Duplicate v (omega arith) (omega (arith, need)))
       permitted Close fit lands need =
@@ -182,7 +197,7 @@ module _ (p : Parts) (q h : ℕ) (i : Instruction) where
       in_bounds o room (read_cells k n) w = omega (arith, w, fits, low)
       in_bounds o room (write_cell k v) w = elim w [
         | inl x ↦ omega (arith, x, fits)
-        | inr x ↦ elim x.1 [ | inl y ↦ omega (arith, y, fits, low) | inr y ↦ omega (arith, y, fits, room) ]
+        | inr x ↦ elim x.1 [ inl y ↦ omega (arith, y, fits, low) | inr y ↦ omega (arith, y, fits, room) ]
       ]
       in_bounds o room (read_literal k) w = w
       in_bounds o room (read_row r k) w = w

@@ -16,14 +16,13 @@ use Rattle.parcels.specs.declared.opcodes.Operation.{Operation}
 use Rattle.parcels.specs.declared.reading.Instruction.{Instruction}
 use Rattle.stages.specs.Encoding.{context, stores_trusted}
 use Rattle.soundness.specs.Paths.{Path, start, extend, ValidHeights}
-use Rattle.soundness.specs.Rules.{OperandFits, LandingFits, ValidInstruction}
+use Rattle.soundness.specs.Rules.{OperandFits, ValidInstruction}
 use Rattle.parcels.specs.Parts.{parcel}
 use Rattle.soundness.specs.Verdicts.{IsValid}
 use Rattle.soundness.proofs.Transfers.{start_even, successor_is}
 use Rattle.soundness.proofs.Orders.{same_read}
 use Rattle.soundness.proofs.Readings.{spans, next_starts, first_starts}
 use Rattle.semantics.specs.Steps.{script_read, script_for, script_at}
-use Rattle.semantics.specs.Scripts.{Script}
 use Rattle.safety.specs.Ready.{unmarked, Ready}
 use Rattle.safety.proofs.Permitting.{literal_there, Permits, permitted}
 

@@ -1,12 +1,12 @@
 -- Every history is safe.
-use Rattle.std.proofs.Common.{◌≡◌, ℕ, zero, suc, ◌<◌, ◌≤◌, Bool, true, false, cond, not, ◌&&◌, eqb, ltb, ◌⊎◌, List, [], ◌∷◌, ◌++◌, length, get_or, set, is_ok, Some, None, Ok, Err, Option, Result, sym, refl, ap, ◌∙◌, subst, inl, inr, arith}
+use Rattle.std.proofs.Common.{◌≡◌, ℕ, zero, suc, ◌<◌, ◌≤◌, Bool, true, false, cond, not, ◌&&◌, eqb, ltb, ◌⊎◌, List, [], ◌∷◌, ◌++◌, length, get_or, set, is_ok, Some, None, Ok, Err, Option, Result, sym, refl, ap, ◌∙◌, subst, inl, inr}
 use Rattle.std.proofs.lemmas.List.{get_or-set_same, get_or-set_other, get_or_past}
 use Rattle.std.proofs.lemmas.Bool.{cases_eq, cases_lt, eq-eqb, le-ltb}
 use Rattle.std.proofs.lemmas.Option.{none-some, same_Some}
 use Rattle.values.specs.Order.{first}
 use Rattle.values.specs.declared.faults.Fault.{Fault}
 use Rattle.values.specs.declared.kinds.Value.{Value}
-use Rattle.hosts.specs.Meaning.{Meaning, Sent, Marks, Kept, Like, marks, marks_of, marks_in, marked, row_of}
+use Rattle.hosts.specs.Meaning.{Meaning, Sent, Marks, Kept, Like, marks_of, marked, row_of}
 use Rattle.hosts.proofs.Cells.{row_marks, open_trusted, kept_same, kept_trans, like_trans, like_same}
 use Rattle.stages.specs.Check.{Question, question_on, checked}
 use Rattle.stages.proofs.Trust.{marks_length}
@@ -14,14 +14,14 @@ use Rattle.parcels.specs.Parts.{parcel}
 use Rattle.soundness.specs.Verdicts.{IsValid}
 use Rattle.soundness.proofs.Orders.{first_none}
 use Rattle.soundness.proofs.Verdict.{every_verdict_means}
-use Rattle.semantics.specs.Steps.{RunView, CallAnswer, StepUnless, Step, step_tests, is_live, frame_cells, next_script}
+use Rattle.semantics.specs.Steps.{RunView, StepUnless, step_tests, is_live, frame_cells, next_script}
 use Rattle.semantics.specs.declared.states.State.{State}
 use Rattle.semantics.specs.declared.states.State.TheVariants.{Live, Ended, Stopped}
 use Rattle.semantics.proofs.Executing.{like}
 use Rattle.semantics.specs.Opening.{Opened, open_tests, opened_unless, opened_by, opened, begun, empty}
 use Rattle.safety.specs.Histories.{HeldRuns, Holds, Call, takes, opens, steps, collects, History, new, called, OpensUntrusted, Untrusted, Safe, EveryHistoryIsSafe}
 use Rattle.safety.proofs.Readiness.{accepted_ready, accepted_open}
-use Rattle.safety.proofs.Stepping.{Sound, placed, Made, made, still_sound, progress, keeps}
+use Rattle.safety.proofs.Stepping.{Sound, placed, made, still_sound, progress, keeps}
 
 -- the runs that are held after one of them changed
 pub held_length : (rs : HeldRuns) (k : ℕ) (run : RunView) → Holds rs k run → k < length rs
@@ -38,7 +38,6 @@ after_taken [] zero run e = inl (sym (same_Some _ _ e))
 after_taken [] (suc j) run e = absurd cc
 after_taken (r ∷ rs) zero run e = inr e
 after_taken (r ∷ rs) (suc j) run e = after_taken rs j run e
-
 
 -- a state that is live is neither ended nor stopped
 never_live : (x : State) → is_live x ≡ false → x ≡ Live → ⊥
@@ -138,9 +137,12 @@ module _ {S : Type 0} (means : S → Meaning) (may : S → Sent → Value → S 
       changed r e l (stays p) =
           let y = x.runs k run at (ap (λ (z : RunView). z.state) (sym p ∙ e) ∙ l) in
           (y.0, (λ v. y.1 v.1), subst (λ (z : RunView). Sound (marks_of (means s₀)) y.0 z) (sym p ∙ e) y.2)
-      changed r e l (begins ok sound) =
-          (t, (λ v. v.0 ok), subst (λ (z : RunView). Sound (marks_of (means s₀)) t z) e
-          (subst (λ (n : Marks). Sound n t (opened (question_on (means s) t b hs ws) args f run).run) x.same.marks sound))
+      changed r e l (begins ok sound) = (
+        t,
+        (λ v. v.0 ok),
+        subst (λ (z : RunView). Sound (marks_of (means s₀)) t z) e
+            (subst (λ (n : Marks). Sound n t (opened (question_on (means s) t b hs ws) args f run).run) x.same.marks sound),
+      )
   kept_up_by {s₀} {s} {rs = rs} {u = u} (steps k run run' at s' f f' a st) x = by (first (step_tests run f (means s))) refl
     where
       by : (o : Option Fault) → first (step_tests run f (means s)) ≡ o → KeptUp (Unit {0} × u) s₀ s' (set rs k (Some run'))

@@ -1,49 +1,38 @@
 -- One step of a run that came from an acceptance.
-use Rattle.std.proofs.Common.{◌≡◌, ℕ, zero, suc, ◌+◌, ◌-◌, ◌*◌, ◌/◌, ◌%◌, ◌<◌, ◌≤◌, Bool, true, false, cond, not, ◌&&◌, eqb, ltb, ◌⊎◌, List, [], ◌∷◌, ◌++◌, length, get_or, set, is_ok, Some, None, Ok, Err, Option, Result, sym, refl, ap, ◌∙◌, subst, inl, inr, arith}
-use Rattle.std.specs.Prelude.{◌↔◌}
-use Rattle.std.proofs.lemmas.List.{get_or-set_same, get_or-set_other, get_or_past}
-use Rattle.std.proofs.lemmas.Bool.{cases_eq, cases_lt, eq-eqb, le-ltb}
-use Rattle.std.proofs.lemmas.Option.{none-some, same_Some}
+use Rattle.std.proofs.Common.{◌≡◌, ℕ, ◌+◌, ◌-◌, ◌*◌, ◌%◌, ◌<◌, ◌≤◌, Bool, true, false, List, length, get_or, Some, None, Ok, Option, sym, refl, ap, ◌∙◌, subst, inl, inr, arith}
+use Rattle.std.proofs.lemmas.Option.{same_Some}
 use Rattle.values.specs.Order.{first}
 use Rattle.values.specs.declared.faults.Fault.{Fault}
 use Rattle.values.specs.declared.kinds.Value.{Value}
-use Rattle.values.specs.declared.kinds.Value.TheVariants.{Nil, True, False, Block}
-use Rattle.hosts.specs.Meaning.{Meaning, Sent, Marks, Kept, Like, message, marks, marks_of, marks_in, marked, row_of}
-use Rattle.hosts.proofs.Cells.{row_marks, open_trusted, kept_same, kept_trans, like_trans, like_same}
-use Rattle.parcels.specs.Instructions.{InstructionAt, Among, successors}
+use Rattle.values.specs.declared.kinds.Value.TheVariants.{Nil}
+use Rattle.hosts.specs.Meaning.{Meaning, Sent, Marks, Kept, marks_of}
+use Rattle.parcels.specs.Instructions.{InstructionAt}
 use Rattle.parcels.specs.Layouts.{limit_of}
-use Rattle.parcels.specs.Literals.{literal, selector_of}
-use Rattle.parcels.specs.Opcodes.{operation_of, arity_of, effect_of, after, landing_of}
+use Rattle.parcels.specs.Literals.{selector_of}
+use Rattle.parcels.specs.Opcodes.{operation_of, arity_of, effect_of, landing_of}
 use Rattle.parcels.specs.Reading.{starts_at}
 use Rattle.parcels.specs.declared.literals.Literal.{Literal}
-use Rattle.parcels.specs.declared.literals.Literal.TheVariants.{Selector}
 use Rattle.parcels.specs.declared.opcodes.Direction.TheVariants.{Forward}
 use Rattle.parcels.specs.declared.opcodes.Operation.{Operation}
-use Rattle.parcels.specs.declared.opcodes.Operation.TheVariants.{Send, SendSelector, Push, Store, Jump, Branch, Pop, Duplicate, Close, End, Line}
+use Rattle.parcels.specs.declared.opcodes.Operation.TheVariants.{Send, SendSelector, Branch, Close}
 use Rattle.parcels.specs.declared.reading.Instruction.{Instruction}
 use Rattle.stages.specs.Encoding.{context, stores_trusted}
-use Rattle.stages.specs.Check.{Question, question_on, checked}
-use Rattle.stages.proofs.Trust.{marks_length}
 use Rattle.soundness.specs.Rules.{OperandFits, ValidInstruction}
-use Rattle.parcels.specs.Parts.{parcel}
-use Rattle.soundness.specs.Verdicts.{IsValid}
-use Rattle.soundness.proofs.Orders.{first_none, same_read}
-use Rattle.semantics.specs.Scripts.{Access, write_cell, write_row, Script, act, read_cell, read_literal, given, sending, branching, must_be_boolean, Leaf, comes_to, Outcome, continues, ends, stops}
+use Rattle.soundness.proofs.Orders.{same_read}
+use Rattle.semantics.specs.Scripts.{Access, write_cell, write_row, Script, act, read_cell, given, sending, branching, must_be_boolean, comes_to, Outcome, continues, ends, stops}
 use Rattle.semantics.specs.Execution.{Exec, Everywhere}
-use Rattle.semantics.specs.Steps.{RunView, CallAnswer, moved, StepUnless, Step, step_tests, has_counts, is_live, frame_cells, working_base, code_context_of, script_at, next_script}
+use Rattle.semantics.specs.Steps.{RunView, CallAnswer, moved, StepUnless, Step, step_tests, working_base, code_context_of, script_at, next_script}
 use Rattle.semantics.specs.Laws.{in_frame, InUse, Spares, NotStuck, Within}
-use Rattle.semantics.specs.declared.states.State.{State}
 use Rattle.semantics.specs.declared.states.State.TheVariants.{Live, Ended, Stopped}
 use Rattle.semantics.specs.declared.states.Stop.{Stop}
 use Rattle.semantics.specs.declared.states.Stop.TheVariants.{NotUnderstood, NoBlock}
-use Rattle.semantics.proofs.Executing.{everywhere_leaf, everywhere_map, unwritten, like, kept}
+use Rattle.semantics.proofs.Executing.{everywhere_leaf, everywhere_map, unwritten, kept}
 use Rattle.semantics.proofs.Operations.{Lands, MayStop, leads_to, script_laws}
 use Rattle.semantics.proofs.Telling.{Continues, send_told, branch_told, close_told}
-use Rattle.semantics.specs.Opening.{Opened, open_tests, opened_unless, opened_by, opened, empty}
 use Rattle.safety.specs.Ready.{unmarked, Ready}
-use Rattle.safety.specs.Histories.{HeldRuns, Holds, counts_of, stack_of, top_of, message_on, Sends, short, selector, branch, MeetsNoBlock, WellPlaced, Progress, Call, takes, opens, steps, collects, History, new, called, OpensUntrusted, Untrusted, Safe, EveryHistoryIsSafe}
-use Rattle.safety.proofs.Permitting.{Permits, stack_at, all_in_use, all_in_bounds, all_open}
-use Rattle.safety.proofs.Readiness.{accepted_ready, accepted_open, path_starts, path_low, script_is, here, operand, need, next_permitted, ready_on}
+use Rattle.safety.specs.Histories.{counts_of, stack_of, top_of, Sends, short, selector, branch, MeetsNoBlock, WellPlaced, Progress}
+use Rattle.safety.proofs.Permitting.{all_in_use, all_in_bounds, all_open}
+use Rattle.safety.proofs.Readiness.{path_starts, path_low, script_is, here, operand, need, next_permitted, ready_on}
 
 -- a run that came from an acceptance over the marks m, trusted or not
 pub record Sound (m : Marks) (t : Bool) (run : RunView) : Type 0 where
@@ -66,7 +55,7 @@ same_at {code} {p} {i} {j} s t =
 -- the working cells that its next step reads and writes are in use
 used : {m : Marks} {t : Bool} {run : RunView} (s : Sound m t run)
     → Everywhere run.parts.literals
-      (InUse (stack_of run (here s.ready).instruction (here s.ready).operation)) NotStuck (next_script run)
+    (InUse (stack_of run (here s.ready).instruction (here s.ready).operation)) NotStuck (next_script run)
 used {run = run} s =
     let k = here s.ready in
     subst
@@ -236,8 +225,8 @@ module _ {S : Type 0} (means : S → Meaning) (may : S → Sent → Value → S 
             → st.outcome ≡ stops (NotUnderstood must_be_boolean)
         on None x = absurd x
         on (Some r) x = elim (branch_told run.parts.literals means may (code_context_of run.parts) i (run.place + 2 * i.pairs) run.height f s st.outcome f' s' w r (top_of run f) x) [
-          | inl z ↦ elim z.0 [ | inl y ↦ absurd (not_true y) | inr y ↦ absurd (not_false y) ]
-          | inr z ↦ elim z.2 [ | inl y ↦ absurd (contrary y.0 u) | inr y ↦ y.1 ]
+          | inl z ↦ elim z.0 [ inl y ↦ absurd (not_true y) | inr y ↦ absurd (not_false y) ]
+          | inr z ↦ elim z.2 [ inl y ↦ absurd (contrary y.0 u) | inr y ↦ y.1 ]
         ]
 
     -- it stopped for want of a block: then there was none, and the other way round
@@ -267,7 +256,7 @@ module _ {S : Type 0} (means : S → Meaning) (may : S → Sent → Value → S 
         → (x : Access) → InUse (stack_of run k.instruction k.operation) x → Spares (in_frame j) x
     spared_below j low high (write_cell n v) w = λ e.
         let z : n ≡ j = cc in
-        elim w [ | inl y ↦ absurd (omega (arith, y, z, low)) | inr y ↦ absurd (omega (arith, y.0, z, high)) ]
+        elim w [ inl y ↦ absurd (omega (arith, y, z, low)) | inr y ↦ absurd (omega (arith, y.0, z, high)) ]
     spared_below j low high (write_row r n v) w = λ e. absurd cc
     spared_below j low high x w = tt
 
@@ -286,9 +275,10 @@ module _ {S : Type 0} (means : S → Meaning) (may : S → Sent → Value → S 
     pub progress : run.state ≡ Live → Progress means may run f s a run' f'
     progress live = record {
       unrefused = st.fine;
-      not_understood = λ n.
-          (λ e. unknown n (stopped_from live (NotUnderstood n) e),
-          λ x. stopped_to (NotUnderstood n) (told x.0 x.1 x.2 ∙ ap (λ (k : ℕ). stops (NotUnderstood k)) x.3));
+      not_understood = λ n. (
+        λ e. unknown n (stopped_from live (NotUnderstood n) e),
+        λ x. stopped_to (NotUnderstood n) (told x.0 x.1 x.2 ∙ ap (λ (k : ℕ). stops (NotUnderstood k)) x.3),
+      );
       no_block = (λ e. blockless (stopped_from live NoBlock e), λ x. stopped_to NoBlock (lacking x));
       below = kept_below;
       behind = λ j past.

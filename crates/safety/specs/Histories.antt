@@ -122,7 +122,7 @@ module _ {S : Type 0} (means : S → Meaning) (may : S → Sent → Value → S 
     opens : {s : S} {rs : HeldRuns} (k : ℕ) (run : RunView) → Holds rs k run
         → (t : Bool) (b hs ws : List ℕ) (args f : List Value)
         → Call s rs s
-          (slice_set rs k (Some (opened (question_on (means s) t b hs ws) args f run).run))
+        (slice_set rs k (Some (opened (question_on (means s) t b hs ws) args f run).run))
     steps : {s : S} {rs : HeldRuns} (k : ℕ) (run run' : RunView) → Holds rs k run
         → (s' : S) (f f' : List Value) (a : CallAnswer) → Step means may run f s a run' f' s'
         → Call s rs s' (slice_set rs k (Some run'))

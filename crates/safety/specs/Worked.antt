@@ -66,7 +66,7 @@ ThousandRuns a f = let run = (opens thousand (a ∷ f)).run in
     ((opens thousand (a ∷ f)).answer ≡ Ok 1)
     × BareStep run (a ∷ f) (Ok tt) (at run 4 1) (value_1000 ∷ f)
     × BareStep (at run 4 1) (value_1000 ∷ f) (Ok tt)
-      (record (at run 4 1) { state = Ended Return value_1000 }) (value_1000 ∷ f)
+    (record (at run 4 1) { state = Ended Return value_1000 }) (value_1000 ∷ f)
 
 -- the third at its send at place 6 and height 3: the receiver is the lowest of the three cells, the
 -- arguments are the two above it in order, and a host that does not understand the message stops

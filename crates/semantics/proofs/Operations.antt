@@ -96,15 +96,19 @@ module _ (p : Parts) (q h : ℕ) (i : Instruction) where
 
   pub leads_to : (o : Operation) → (effect_of o i).takes ≤ h → Leads o (script_at p q h i o)
   leads_to Send n = sends Send false i.opcode (arity_of i.opcode) tt (inl refl, omega arith)
-  leads_to (SendSelector s) n =
-      (tt, provided (Leads (SendSelector s)) (selector_of (literal p.literals (i.argument / 256))) tt
-      (λ m e. sends (SendSelector s) s m (i.argument % 256) tt (inl refl, omega arith)))
+  leads_to (SendSelector s) n = (
+    tt,
+    provided (Leads (SendSelector s)) (selector_of (literal p.literals (i.argument / 256))) tt
+        (λ m e. sends (SendSelector s) s m (i.argument % 256) tt (inl refl, omega arith)),
+  )
   leads_to (Push s) n =
       sourced (Push s) s (pushing (code_context_of p) i (q + 2 * i.pairs) h) (λ v. (tt, λ _. (inl refl, omega arith)))
   leads_to (Store target.Cell) n = (tt, λ v. (tt, λ _. (inl refl, omega arith)))
-  leads_to (Store target.Binding) n =
-      (tt, provided (Leads (Store target.Binding)) (binding_of (literal p.literals i.argument)) tt
-      (λ m e. (tt, λ v. (tt, λ _. (tt, λ _. (inl refl, omega arith))))))
+  leads_to (Store target.Binding) n = (
+    tt,
+    provided (Leads (Store target.Binding)) (binding_of (literal p.literals i.argument)) tt
+        (λ m e. (tt, λ v. (tt, λ _. (tt, λ _. (inl refl, omega arith))))),
+  )
   leads_to (Store target.Variable) n = (tt, λ v. (tt, λ _. (inl refl, omega arith)))
   leads_to (Jump d) n =
       provided (Leads (Jump d)) (landing_of p.code d next i.argument) tt
@@ -114,13 +118,17 @@ module _ (p : Parts) (q h : ℕ) (i : Instruction) where
       (λ r e.
       let jumps = subst (λ (l : Option ℕ). Among r (l ∷ Some next ∷ [])) (sym e) (inl refl) in
       let follows = subst (λ (l : Option ℕ). Among next (l ∷ Some next ∷ [])) (sym e) (inr (inl refl)) in
-      let there : ℕ → Type 0 = λ x. Leads (Branch w) (done (comes_to (continues x (h - 1)))) in
-      (tt, λ v.
-      chosen (Leads (Branch w)) v
-      (either there w (jumps, omega arith) (follows, omega arith))
-      (either there w (follows, omega arith) (jumps, omega arith))
-      (tt, λ a. replied (Leads (Branch w)) (message false must_be_boolean v []) a tt
-      (λ x. (jumps, omega arith)))))
+      let there : ℕ → Type 0 = λ x. Leads (Branch w) (done (comes_to (continues x (h - 1)))) in (
+        tt,
+        λ v.
+            chosen (Leads (Branch w)) v
+            (either there w (jumps, omega arith) (follows, omega arith))
+            (either there w (follows, omega arith) (jumps, omega arith)) (
+              tt,
+              λ a. replied (Leads (Branch w)) (message false must_be_boolean v []) a tt
+                  (λ x. (jumps, omega arith)),
+            ),
+      ))
   leads_to Pop n = (inl refl, omega arith)
   leads_to Duplicate n = (tt, λ v. (tt, λ _. (inl refl, omega arith)))
   leads_to Close n = (tt, λ v. closed (Leads Close) v tt (λ w. (tt, λ _. (inl refl, omega arith))))

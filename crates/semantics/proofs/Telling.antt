@@ -40,7 +40,7 @@ module _ (literals : List ℕ) {S : Type 0} (means : S → Meaning) (may : S →
     pub send_told : (super : Bool) (selector n : ℕ)
         → Exec literals means may (sending c i next h super selector n) f s o f' s'
         → Told (message super selector (get_or f (c.base + (h - n - 1)) Nil) (take n (drop (c.base + (h - n)) f)))
-          s o Continues
+        s o Continues
     send_told super selector n x =
         sent_told _ (λ v. act (write_cell (c.base + (h - n - 1)) v) (λ _. continue_at next (h - n)))
         Continues f s o f' s' (λ v t y. (next, h - n, y.0)) x
@@ -49,17 +49,20 @@ module _ (literals : List ℕ) {S : Type 0} (means : S → Meaning) (may : S →
     pub branch_told : (when : Bool) (p : ℕ) (v : Value)
         → Exec literals means may (branching c i next h when p v) f s o f' s'
         → (((v ≡ True) ⊎ (v ≡ False)) × Continues o)
-          ⊎ ((v ≡ True → ⊥) × (v ≡ False → ⊥) × Told (message false must_be_boolean v []) s o Continues)
+        ⊎ ((v ≡ True → ⊥) × (v ≡ False → ⊥) × Told (message false must_be_boolean v []) s o Continues)
     branch_told when p True x = inl (inl refl, (_, _, x.0))
     branch_told when p False x = inl (inr refl, (_, _, x.0))
     branch_told when p v x =
-        inr ((λ e. absurd cc), (λ e. absurd cc),
-        sent_told _ (λ _. continue_at p (h - 1)) Continues f s o f' s' (λ w t y. (p, h - 1, y.0)) x)
+        inr (
+          (λ e. absurd cc),
+          (λ e. absurd cc),
+          sent_told _ (λ _. continue_at p (h - 1)) Continues f s o f' s' (λ w t y. (p, h - 1, y.0)) x,
+        )
 
     -- a closure stops only where there is no block
     pub close_told : (v : Value) (t : ℕ)
         → Exec literals means may (closed_over v (λ w. act (write_cell t w) (λ _. continue_at next h))) f s o f' s'
         → ((n : ℕ) × (v ≡ Block n) × Continues o)
-          ⊎ (((n : ℕ) → v ≡ Block n → ⊥) × (o ≡ stops NoBlock))
+        ⊎ (((n : ℕ) → v ≡ Block n → ⊥) × (o ≡ stops NoBlock))
     close_told (Block n) t x = inl (n, refl, (next, h, x.0))
     close_told v t x = inr ((λ n e. absurd cc), x.0)

@@ -112,8 +112,8 @@ module _ (literals : List ℕ) where
   Agrees (act a k) f m g n =
       (answer_of literals a g n ≡ answer_of literals a f m)
       × Agrees (k (answer_of literals a f m))
-        (frame_after a f) (meaning_after a m)
-        (frame_after a g) (meaning_after a n)
+      (frame_after a f) (meaning_after a m)
+      (frame_after a g) (meaning_after a n)
   Agrees (done l) f m g n = Unit {0}
 
 module _ {S : Type 0} (means : S → Meaning) (may : S → Sent → Value → S → Type 0) where

@@ -1,4 +1,4 @@
-use Rattle.std.proofs.Common.{◌≡◌, ℕ, List, Some, None, Option, refl, sym, ap, ◌∙◌, subst}
+use Rattle.std.proofs.Common.{◌≡◌, ℕ, List, Some, None, Option, refl, sym, ap, subst}
 use Rattle.std.specs.Option.{option_map}
 use Rattle.values.specs.declared.kinds.Value.{Value}
 use Rattle.hosts.specs.Meaning.{Meaning, Sent, cell_value}
@@ -6,7 +6,6 @@ use Rattle.hosts.specs.declared.rows.Row.TheVariants.{Bindings}
 use Rattle.parcels.specs.Literals.{literal, binding_of}
 use Rattle.parcels.specs.Parts.{Parts, parts}
 use Rattle.parcels.specs.declared.opcodes.Operation.{Operation}
-use Rattle.parcels.specs.declared.opcodes.Operation.TheVariants.{Push}
 use Rattle.parcels.specs.declared.opcodes.Source.{Source}
 use Rattle.parcels.specs.declared.opcodes.Source.TheVariants as source
 use Rattle.parcels.specs.declared.reading.Instruction.{Instruction}
