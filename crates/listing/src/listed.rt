@@ -1,5 +1,6 @@
 // One parcel over a host, and over a week file that is always the same.
 ghost use Rattle.std.specs.Prelude.{◌≡◌, IfOk};
+ghost use Rattle.stages.specs.declared.heights.TheConstants.{MAX_PAIRS};
 ghost use Rattle.listing.specs.Listed.{fixed_week, verdict_on, listed, WorkedVerdicts};
 
 use crate::verdicts::Verdict;
@@ -11,7 +12,7 @@ use week_file::WeekFile;
 
 // Four variables and two bindings, all nil, and receiver object 0; variable 3 and binding 1 are
 // trusted.
-const WEEK: [u8; 44] = [
+const FIXED_WEEK: [u8; 44] = [
     0, 4, 0, 2, 0, 0, 0, 0, 0, 0, 0, 0, 0, 0, 0, 0, 0, 0, 0, 0, 0, 0, 0, 0, 0, 0, 1, 0, 0, 0, 0, 0,
     0, 0, 0, 0, 0, 0, 1, 0, 0, 0, 0, 0,
 ];
@@ -20,11 +21,11 @@ const WEEK: [u8; 44] = [
 fn fixed_file(heap: Global) -> Result<WeekFile, AllocError>
     ensures { IfOk result (λ h. h.bytes.items ≡ fixed_week) }
 {
-    Ok(WeekFile::open(WEEK.to_vec(heap)?))
+    Ok(WeekFile::open(FIXED_WEEK.to_vec(heap)?))
 }
 
-/// What a check of a parcel finds over a host. The lists suffice for every code and lie on the
-/// stack: a check asks for no memory.
+/// The verdict on a parcel, trusted or not, over a host. It asks for no memory: the lists of the
+/// check lie on the stack, and are long enough for every code.
 pub fn verdict_of<H: Host>(host: &H, parcel: &[u8], trusted: bool) -> Verdict
     ensures { result ≡ verdict_on (H.means host.now) trusted MAX_PAIRS parcel.now }
 {
@@ -33,7 +34,7 @@ pub fn verdict_of<H: Host>(host: &H, parcel: &[u8], trusted: bool) -> Verdict
     Verdict(check(host, parcel, trusted, &mut heights, &mut waiting))
 }
 
-/// The verdict on an untrusted parcel over the fixed week file; an error if memory runs out.
+/// The verdict on an untrusted parcel over the fixed week file. An error says that memory ran out.
 pub fn list(heap: Global, parcel: &[u8]) -> Result<Verdict, AllocError>
     ensures answer { IfOk result (λ v. v ≡ listed parcel.now) }
     ensures worked { WorkedVerdicts }

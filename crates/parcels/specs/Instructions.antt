@@ -1,6 +1,6 @@
 -- The instructions of a code: what stands at a place, and the places that may come after it.
-use Rattle.std.specs.Prelude.{◌≡◌, ℕ, ◌+◌, ◌*◌, ◌⊎◌, List, [], ◌∷◌, Some, None, Ok, Option}
-use Rattle.parcels.specs.Reading.{read_at}
+use Rattle.std.specs.Prelude.{◌≡◌, ℕ, ◌⊎◌, List, [], ◌∷◌, Some, None, Ok, Option}
+use Rattle.parcels.specs.Reading.{read_at, following_place}
 use Rattle.parcels.specs.Opcodes.{operation_of, flow_of, successors_of}
 use Rattle.parcels.specs.declared.opcodes.Operation.{Operation}
 use Rattle.parcels.specs.declared.reading.Instruction.{Instruction}
@@ -19,4 +19,4 @@ Among s (Some t ∷ ss) = (s ≡ t) ⊎ Among s ss
 
 -- the successors of an instruction at p: its landing place, its following place, either, or none
 abbrev pub successors : List ℕ → ℕ → Instruction → Operation → List (Option ℕ)
-successors code p i o = successors_of code (flow_of o) (p + 2 * i.pairs) i.argument
+successors code p i o = successors_of code (flow_of o) (following_place p i) i.argument

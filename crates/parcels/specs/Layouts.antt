@@ -37,12 +37,12 @@ abbrev pub code_length_field : List ℕ → ℕ
 code_length_field b = be16 b 8
 
 -- how many bytes a parcel with so many literals and so long a code has
-abbrev pub parcel_bytes : ℕ → ℕ → ℕ
-parcel_bytes literals code = HEADER_BYTES + LITERAL_BYTES * literals + code
+abbrev pub parcel_length : ℕ → ℕ → ℕ
+parcel_length literals code = HEADER_BYTES + LITERAL_BYTES * literals + code
 
 -- how many bytes a parcel has by its own header
-abbrev pub stated_bytes : List ℕ → ℕ
-stated_bytes b = parcel_bytes (literal_count_field b) (code_length_field b)
+abbrev pub stated_length : List ℕ → ℕ
+stated_length b = parcel_length (literal_count_field b) (code_length_field b)
 
 -- the header rules, in order
 abbrev pub header_tests : List ℕ → List Test
@@ -51,7 +51,7 @@ header_tests b =
     ∷ test KindUnknown 0 (nat_lt 1 (kind_field b))
     ∷ test LiteralsTooMany 2 (nat_lt MAX_LITERALS (literal_count_field b))
     ∷ test CodeTooLong 8 (nat_lt MAX_CODE (code_length_field b))
-    ∷ test LengthWrong 8 (not (length b == stated_bytes b))
+    ∷ test LengthWrong 8 (not (length b == stated_length b))
     ∷ []
 
 -- the header that bytes have, whatever they are
@@ -69,7 +69,7 @@ parcel_header b = unless (first (header_tests b)) (header b)
 
 -- what the header rules leave of a header in n bytes
 pub record HeaderFitsIn (h : ParcelHeader) (n : ℕ) : Type 0 where
-  pub ends : parcel_bytes h.literal_count h.code_length ≡ n
+  pub ends : parcel_length h.literal_count h.code_length ≡ n
   pub few : h.literal_count ≤ MAX_LITERALS
   pub short : h.code_length ≤ MAX_CODE
 
@@ -139,7 +139,7 @@ limit_of l = l.slot_count - l.local_count
 
 -- what the rules leave of a layout in n bytes
 pub record FitsIn (l : Layout) (n : ℕ) : Type 0 where
-  pub ends : parcel_bytes l.literal_count l.code_length ≡ n
+  pub ends : parcel_length l.literal_count l.code_length ≡ n
   pub few : l.literal_count ≤ MAX_LITERALS
   pub short : l.code_length ≤ MAX_CODE
   pub low : l.slot_count ≤ MAX_SLOTS

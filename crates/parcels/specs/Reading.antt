@@ -44,9 +44,13 @@ reading code = reads MAX_EXTENSIONS 0 0 code
 abbrev pub read_at : List ℕ → ℕ → Reading
 read_at code p = reading (drop p code)
 
+-- the place that follows an instruction at p
+abbrev pub following_place : ℕ → Instruction → ℕ
+following_place p i = p + PAIR_BYTES * i.pairs
+
 -- the place after what is read at p: behind the instruction, or p itself where there is none
 abbrev pub place_after : ℕ → Reading → ℕ
-place_after p (Ok r) = p + PAIR_BYTES * r.0.pairs
+place_after p (Ok r) = following_place p r.0
 place_after p (Err e) = p
 
 -- an instruction starts at a place that is even, below the end and not directly after an extension

@@ -1,5 +1,5 @@
 -- A run as its caller sees it, and one step of it.
-use Rattle.std.specs.Prelude.{◌≡◌, ℕ, ◌+◌, ◌*◌, Bool, true, false, not, ◌&&◌, List, [], ◌∷◌, length, Some, None, Ok, Err, Option, Result, ◌==◌, nat_lt}
+use Rattle.std.specs.Prelude.{◌≡◌, ℕ, ◌+◌, Bool, true, false, not, ◌&&◌, List, [], ◌∷◌, length, Some, None, Ok, Err, Option, Result, ◌==◌, nat_lt}
 use Rattle.values.specs.Order.{Test, test, first}
 use Rattle.values.specs.declared.faults.Fault.{Fault}
 use Rattle.values.specs.declared.faults.Rule.TheVariants.{RunNotLive, CountsDiffer, StepFrameShort}
@@ -8,7 +8,7 @@ use Rattle.values.specs.declared.kinds.Value.TheVariants.{Nil}
 use Rattle.hosts.specs.Meaning.{Meaning, Sent}
 use Rattle.parcels.specs.Opcodes.{operation_of}
 use Rattle.parcels.specs.Parts.{Parts}
-use Rattle.parcels.specs.Reading.{Reading, read_at}
+use Rattle.parcels.specs.Reading.{Reading, read_at, following_place}
 use Rattle.parcels.specs.declared.opcodes.Operation.{Operation}
 use Rattle.parcels.specs.declared.reading.Instruction.{Instruction}
 use Rattle.semantics.specs.Scripts.{Script, done, stuck, CodeContext, script_of, Outcome, continues, ends, stops}
@@ -40,7 +40,7 @@ code_context_of p = record { code = p.code; base = working_base p }
 
 -- the script of an instruction at a place and a height
 abbrev pub script_at : Parts → (place height : ℕ) → Instruction → Operation → Script
-script_at p place h i o = script_of (code_context_of p) i (place + 2 * i.pairs) h o
+script_at p place h i o = script_of (code_context_of p) i (following_place place i) h o
 
 -- the same by the operation of its opcode, if there is one
 abbrev pub script_for : Parts → (place height : ℕ) → Instruction → Option Operation → Script

@@ -57,8 +57,8 @@ pub data AnsweredBy (q : Question) : Checked → Type 0 where
 
 module _ (q : Question) where
   -- the stages literals and lists over parts
-  abbrev admit : Parts → Option Fault
-  admit p = admission_fault q.marks p (length q.heights) (length q.waiting)
+  abbrev admission : Parts → Option Fault
+  admission p = admission_fault q.marks p (length q.heights) (length q.waiting)
 
   in_sweep : (o : Option Fault) → early_fault q ≡ o
       → AnsweredBy q
@@ -87,7 +87,7 @@ module _ (q : Question) where
   in_flags : (o : Option Fault) → early_fault q ≡ option_or o (from_literals q)
       → AnsweredBy q (checked_by q
       (and_then (and_then (unless o (laid_out (header q.bytes))) (λ l. Ok (split q.bytes l)))
-      (λ p. unless (admit p) p)))
+      (λ p. unless (admission p) p)))
   in_flags (Some f) e = stopped f e refl
   in_flags None e = in_literals (literal_stage q) e
 
@@ -95,7 +95,7 @@ module _ (q : Question) where
       → AnsweredBy q (checked_by q
       (and_then
       (and_then (and_then (unless o (header q.bytes)) flagged) (λ l. Ok (split q.bytes l)))
-      (λ p. unless (admit p) p)))
+      (λ p. unless (admission p) p)))
   in_header (Some f) e = stopped f e refl
   in_header None e = in_flags (first (flag_tests (header q.bytes))) e
 

@@ -7,8 +7,8 @@ use Rattle.values.specs.Faults.{fault}
 use Rattle.values.specs.Order.{and_then}
 use Rattle.values.specs.declared.faults.Fault.{Fault}
 use Rattle.values.specs.declared.faults.Rule.TheVariants.{HeightLow, HeightOver, FallsOffEnd, HeightsDiffer}
+use Rattle.parcels.specs.Reading.{following_place}
 use Rattle.parcels.specs.Opcodes.{flow_of}
-use Rattle.stages.specs.Sweep.{following}
 use Rattle.stages.specs.Examination.{transfer_of, height_after, Work, successors_reached, visited, iterate, examined}
 use Rattle.stages.specs.Check.{no_heights}
 use Rattle.stages.specs.declared.heights.Transfer.{Transfer}
@@ -181,7 +181,8 @@ module _ (code : List ℕ) (limit : ℕ) (small : limit < NO_HEIGHT) where
           let i = t.instruction in
           let is = stands_transfer t.stands in
           let end : s ≡ length code =
-          elim (successor_is code (flow_of t.operation) (following p i) i.argument s t.among) [
+          elim
+          (successor_is code (flow_of t.operation) (following_place p i) i.argument s t.among) [
             | inl q ↦ absurd (omega (arith, start_below code s q, g))
             | inr q ↦ omega (arith, q, (spans code p i t.stands.rest t.stands.read).fits, g)
           ]

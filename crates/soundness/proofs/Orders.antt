@@ -6,14 +6,14 @@ use Rattle.values.specs.declared.faults.Fault.{Fault}
 use Rattle.parcels.specs.Layouts.{header_tests, flag_tests}
 use Rattle.parcels.specs.Literals.{literal, binding_missing, literal_tests}
 use Rattle.parcels.specs.Opcodes.{operation_of, flow_of}
-use Rattle.parcels.specs.Reading.{Reading, read_at}
+use Rattle.parcels.specs.Reading.{Reading, read_at, following_place}
 use Rattle.parcels.specs.declared.layout.ParcelHeader.{ParcelHeader}
 use Rattle.parcels.specs.declared.literals.Literal.{Literal}
 use Rattle.parcels.specs.declared.literals.Literal.TheVariants.{Constant, Selector, Binding}
 use Rattle.parcels.specs.declared.opcodes.Operation.{Operation}
 use Rattle.parcels.specs.declared.reading.Instruction.{Instruction}
 use Rattle.stages.specs.Encoding.{Context, is_clean, permits_return, returns_method, makes_closure, operation_tests, site_tests}
-use Rattle.stages.specs.Sweep.{following, site, length_tests}
+use Rattle.stages.specs.Sweep.{site, length_tests}
 use Rattle.stages.specs.Check.{list_tests}
 use Rattle.soundness.specs.Rules.{First, here, later, ValidHeader, ValidFlags, ValidLiteral, AfterBlock, ValidInstruction}
 use Rattle.soundness.proofs.Operands.{operand_fits_true, operand_fits_back, landing_fits_true, landing_fits_back, is_clean_back, permits_return_back, returns_method_back, makes_closure_back}
@@ -153,7 +153,7 @@ module _ (x : Context) (p : ℕ) (b : Bool) (i : Instruction) (rest : List ℕ)
         permits_return_back x.parts.layout.kind
         (not-false _ (and_false _ _ s.1.1.1.0 (ap returns_method q)));
     lands =
-        landing_fits_back x.parts.code (following p i) i.argument (flow_of o)
+        landing_fits_back x.parts.code (following_place p i) i.argument (flow_of o)
         (not-false _ s.1.1.1.1.0);
     closure = λ q. tells (not-false _ (and_false _ _ s.1.1.1.1.1.0 (ap makes_closure q)));
   }
@@ -202,7 +202,8 @@ rules_silent x p b i rest read tells k =
                 (ap permits_return (k.returns (returns_method_back k.operation q)))),
             (
               not_from_true _
-                  (landing_fits_true x.parts.code (following p k.instruction) k.instruction.argument
+                  (landing_fits_true x.parts.code (following_place p k.instruction)
+                  k.instruction.argument
                   (flow_of k.operation) k.lands),
               (
                 false_and _ _

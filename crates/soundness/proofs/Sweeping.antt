@@ -7,11 +7,11 @@ use Rattle.values.specs.Faults.{fault}
 use Rattle.values.specs.Order.{first}
 use Rattle.values.specs.declared.faults.Fault.{Fault}
 use Rattle.parcels.specs.Opcodes.{operation_of}
-use Rattle.parcels.specs.Reading.{Reading, read_at, starts_at, unreadable_rule}
+use Rattle.parcels.specs.Reading.{Reading, read_at, starts_at, unreadable_rule, following_place}
 use Rattle.parcels.specs.declared.reading.Instruction.{Instruction}
 use Rattle.parcels.specs.declared.reading.Unreadable.{Unreadable}
 use Rattle.stages.specs.Encoding.{Context, site_tests}
-use Rattle.stages.specs.Sweep.{pushes_block, following, site, found_at, swept}
+use Rattle.stages.specs.Sweep.{pushes_block, site, found_at, swept}
 use Rattle.soundness.specs.Rules.{First, AfterBlock, ValidInstruction, FirstViolation, unread, breaks}
 use Rattle.soundness.proofs.Transfers.{start_even, start_below}
 use Rattle.soundness.proofs.Readings.{spans, none_inside, next_starts, first_starts}
@@ -53,7 +53,7 @@ module _ (x : Context) where
     even = start_even x.parts.code p starts
 
     -- the instruction before the next place is this one
-    before : AfterBlock x (following p i) → pushes_block x.parts.literals i ≡ true
+    before : AfterBlock x (following_place p i) → pushes_block x.parts.literals i ≡ true
     before a =
         let here = spans x.parts.code p i rest read in
         let there = spans x.parts.code a.place a.instruction a.rest a.read in
@@ -73,7 +73,7 @@ module _ (x : Context) where
         subst (λ (j : Instruction). pushes_block x.parts.literals j ≡ true) same a.pushes
 
     -- it is, whenever it pushes a block
-    tells : (pushes_block x.parts.literals i ≡ true) ↔ AfterBlock x (following p i)
+    tells : (pushes_block x.parts.literals i ≡ true) ↔ AfterBlock x (following_place p i)
     tells = (
       λ e. record {
         place = p;
@@ -88,11 +88,11 @@ module _ (x : Context) where
     )
 
     -- what starts from p on is this instruction, or lies behind it
-    behind : (q : ℕ) → p ≤ q → starts_at x.parts.code q ≡ true → (q ≡ p) ⊎ (following p i ≤ q)
+    behind : (q : ℕ) → p ≤ q → starts_at x.parts.code q ≡ true → (q ≡ p) ⊎ (following_place p i ≤ q)
     behind q l s = elim (cases_order q p) [
       | inl e ↦ inl e
       | inr (inl h) ↦ absurd (omega arith)
-      | inr (inr h) ↦ elim (cases_lt q (following p i)) [
+      | inr (inr h) ↦ elim (cases_lt q (following_place p i)) [
         | inl g ↦ absurd (none_inside (spans x.parts.code p i rest read) even q h g s)
         | inr g ↦ inr g
       ]
@@ -100,9 +100,9 @@ module _ (x : Context) where
 
     -- on to the next place
     onward : {o : Option Fault}
-        → ValidInstruction x p → SweepFinds x (following p i) o → SweepFinds x p o
+        → ValidInstruction x p → SweepFinds x (following_place p i) o → SweepFinds x p o
     onward k (nothing all) =
-        nothing (λ q l s. from p (following p i) all q (behind q l s) k s)
+        nothing (λ q l s. from p (following_place p i) all q (behind q l s) k s)
     onward k (stops q l s all m) =
         stops q (omega (arith, l)) s
         (λ r g h t. elim (behind r g t) [
@@ -117,23 +117,23 @@ module _ (x : Context) where
   sweep_finds zero b p h s word = past p (omega arith)
   sweep_finds (suc n) b p h s word =
       by (leb (length x.parts.code) p) refl (λ i rest read starts.
-      sweep_finds n (pushes_block x.parts.literals i) (following p i)
+      sweep_finds n (pushes_block x.parts.literals i) (following_place p i)
       (omega (arith, h, (spans x.parts.code p i rest read).some))
       (next_starts (spans x.parts.code p i rest read) (start_even x.parts.code p starts))
       (tells p starts i rest read))
     where
       -- what is found behind an instruction
       further : Instruction → Option Fault
-      further i = swept x n (pushes_block x.parts.literals i) (following p i)
+      further i = swept x n (pushes_block x.parts.literals i) (following_place p i)
 
       -- the same of every instruction that may stand at p
       Further : Type 0
       Further =
           (i : Instruction) (rest : List ℕ) → read_at x.parts.code p ≡ Ok (i, rest)
-          → starts_at x.parts.code p ≡ true → SweepFinds x (following p i) (further i)
+          → starts_at x.parts.code p ≡ true → SweepFinds x (following_place p i) (further i)
 
       tested : (i : Instruction) (rest : List ℕ) → read_at x.parts.code p ≡ Ok (i, rest)
-          → starts_at x.parts.code p ≡ true → SweepFinds x (following p i) (further i)
+          → starts_at x.parts.code p ≡ true → SweepFinds x (following_place p i) (further i)
           → (o : Option Fault) → first (site_tests x (site p b i) (operation_of i.opcode)) ≡ o
           → SweepFinds x p (option_or o (further i))
       tested i rest read starts next (Some f) e =

@@ -1,7 +1,7 @@
 -- The transfer at a place, and the instruction that stands there.
 use Rattle.std.proofs.Common.{◌≡◌, ℕ, ◌+◌, ◌-◌, ◌%◌, ◌<◌, Bool, true, false, cond, leb, ◌⊎◌, List, [], ◌∷◌, length, Some, None, Ok, Err, Option, refl, ap, ◌∙◌, subst, inl, inr, arith}
 use Rattle.std.proofs.lemmas.Bool.{and_parts, eqb-true, ltb-true}
-use Rattle.parcels.specs.Reading.{Reading, read_at, starts_at}
+use Rattle.parcels.specs.Reading.{Reading, read_at, starts_at, following_place}
 use Rattle.parcels.specs.Opcodes.{operation_of, flow_of, started, landing_of, successors_of}
 use Rattle.parcels.specs.declared.opcodes.Direction.{Direction}
 use Rattle.parcels.specs.declared.opcodes.Direction.TheVariants.{Back, Forward}
@@ -9,16 +9,16 @@ use Rattle.parcels.specs.declared.opcodes.Flow.{Flow}
 use Rattle.parcels.specs.declared.opcodes.Flow.TheVariants.{Follows, Jumps, Branches, Ends}
 use Rattle.parcels.specs.declared.opcodes.Operation.{Operation}
 use Rattle.parcels.specs.declared.reading.Instruction.{Instruction}
-use Rattle.stages.specs.Sweep.{following}
 use Rattle.stages.specs.Examination.{no_transfer, transfer_by, transfer_read, transfer_of}
 use Rattle.stages.specs.declared.heights.Transfer.{Transfer}
 use Rattle.parcels.specs.Instructions.{InstructionAt, Among, successors}
 
 -- the transfer at p is that of the instruction that stands there
 pub stands_transfer : {code : List ℕ} {p : ℕ} {i : Instruction} {o : Operation}
-    → InstructionAt code p i o → transfer_of code p ≡ transfer_by code (following p i) i (Some o)
+    → InstructionAt code p i o
+    → transfer_of code p ≡ transfer_by code (following_place p i) i (Some o)
 stands_transfer {code} {p} {i} {o} s =
-    ap (transfer_read code p) s.read ∙ ap (transfer_by code (following p i) i) s.known
+    ap (transfer_read code p) s.read ∙ ap (transfer_by code (following_place p i) i) s.known
 
 -- an instruction stands at p, or there is no transfer
 pub data StandsOrNot (code : List ℕ) (p : ℕ) : Type 0 where
@@ -32,7 +32,7 @@ stands_or_not code p = by (read_at code p) refl
         → (x : Option Operation) → operation_of i.opcode ≡ x → StandsOrNot code p
     known i rest e (Some o) f = stands i o (record { rest = rest; read = e; known = f })
     known i rest e None f =
-        stands_not (ap (transfer_read code p) e ∙ ap (transfer_by code (following p i) i) f)
+        stands_not (ap (transfer_read code p) e ∙ ap (transfer_by code (following_place p i) i) f)
 
     by : (r : Reading) → read_at code p ≡ r → StandsOrNot code p
     by (Ok r) e = known r.0 r.1 e (operation_of r.0.opcode) refl
@@ -103,7 +103,7 @@ successor_is code Ends next by s a = absurd a
 pub successor_even : (code : List ℕ) (p s : ℕ) (i : Instruction) (o : Operation)
     → p % 2 ≡ 0 → Among s (successors code p i o) → s % 2 ≡ 0
 successor_even code p s i o e a =
-    elim (successor_is code (flow_of o) (following p i) i.argument s a) [
+    elim (successor_is code (flow_of o) (following_place p i) i.argument s a) [
       | inl t ↦ start_even code s t
       | inr q ↦ omega (arith, e, q)
     ]

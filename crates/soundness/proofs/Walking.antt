@@ -4,9 +4,8 @@ use Rattle.std.proofs.lemmas.List.{get_or_append_left}
 use Rattle.std.proofs.lemmas.Bool.{cases_eq, cases_lt}
 use Rattle.values.specs.declared.faults.Fault.{Fault}
 use Rattle.parcels.specs.Opcodes.{effect_of, after, flow_of}
-use Rattle.parcels.specs.Reading.{starts_at}
+use Rattle.parcels.specs.Reading.{starts_at, following_place}
 use Rattle.stages.specs.Check.{pairs}
-use Rattle.stages.specs.Sweep.{following}
 use Rattle.stages.specs.Examination.{transfer_of, height_after, height_of, height_at, greatest_height}
 use Rattle.stages.specs.declared.heights.Transfer.{Transfer}
 use Rattle.stages.specs.declared.heights.TheConstants.{NO_HEIGHT}
@@ -87,7 +86,7 @@ module _ (code : List ℕ) (limit : ℕ) (hs : List ℕ) (small : limit < NO_HEI
       by (at_start path) (walked (extend path t need m)).below
     where
       by : starts_at code p ≡ true → s < length code → starts_at code s ≡ true
-      by starts l = elim (successor_is code (flow_of o) (following p i) i.argument s m) [
+      by starts l = elim (successor_is code (flow_of o) (following_place p i) i.argument s m) [
         | inl e ↦ e
         | inr e ↦ subst (λ (q : ℕ). starts_at code q ≡ true) (sym e)
             (next_starts (spans code p i t.rest t.read) (start_even code p starts)

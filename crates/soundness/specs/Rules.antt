@@ -4,11 +4,11 @@ use Rattle.values.specs.Faults.{fault}
 use Rattle.values.specs.Order.{Test}
 use Rattle.values.specs.declared.faults.Fault.{Fault}
 use Rattle.values.specs.declared.kinds.Value.{Value}
-use Rattle.parcels.specs.Layouts.{kind_field, literal_count_field, code_length_field, stated_bytes, reserved_set, laid_out}
+use Rattle.parcels.specs.Layouts.{kind_field, literal_count_field, code_length_field, stated_length, reserved_set, laid_out}
 use Rattle.parcels.specs.Literals.{literal}
 use Rattle.parcels.specs.Opcodes.{operation_of, flow_of, landing_of}
 use Rattle.parcels.specs.Parts.{Parts}
-use Rattle.parcels.specs.Reading.{read_at, starts_at, unreadable_rule}
+use Rattle.parcels.specs.Reading.{read_at, starts_at, unreadable_rule, following_place}
 use Rattle.parcels.specs.declared.layout.CodeKind.TheVariants.{Block}
 use Rattle.parcels.specs.declared.layout.ParcelHeader.{ParcelHeader}
 use Rattle.parcels.specs.declared.layout.TheConstants.{HEADER_BYTES, MAX_LITERALS, MAX_CODE}
@@ -28,7 +28,7 @@ use Rattle.parcels.specs.declared.reading.TheConstants.{PAIR_BYTES}
 use Rattle.parcels.specs.declared.reading.Unreadable.{Unreadable}
 use Rattle.stages.specs.Operands.{named_cells}
 use Rattle.stages.specs.Encoding.{Context, asks_self, stores_trusted, site_tests}
-use Rattle.stages.specs.Sweep.{pushes_block, following, site}
+use Rattle.stages.specs.Sweep.{pushes_block, site}
 use Rattle.stages.specs.declared.encoding.TheConstants.{CLEAN, RETURNING}
 use Rattle.parcels.specs.Instructions.{InstructionAt}
 
@@ -44,7 +44,7 @@ pub record ValidHeader (b : List ℕ) : Type 0 where
   pub known : kind_field b ≤ 1
   pub few : literal_count_field b ≤ MAX_LITERALS
   pub short : code_length_field b ≤ MAX_CODE
-  pub ends : length b ≡ stated_bytes b
+  pub ends : length b ≡ stated_length b
 
 -- the flag rules
 pub record ValidFlags (h : ParcelHeader) : Type 0 where
@@ -100,7 +100,7 @@ pub record AfterBlock (x : Context) (p : ℕ) : Type 0 where
   pub rest : List ℕ
   pub starts : starts_at x.parts.code place ≡ true
   pub read : read_at x.parts.code place ≡ Ok (instruction, rest)
-  pub next : following place instruction ≡ p
+  pub next : following_place place instruction ≡ p
   pub pushes : pushes_block x.parts.literals instruction ≡ true
 
 -- the encoding rules at an instruction that starts at p: its operand fits; a clean block asks
@@ -116,7 +116,7 @@ pub record ValidInstruction (x : Context) (p : ℕ) : Type 0 where
   pub unmarked : x.trusted ≡ false
       → stores_trusted x.marks x.parts.literals instruction.argument operation ≡ false
   pub returns : operation ≡ End MethodReturn → x.parts.layout.kind ≡ Block RETURNING
-  pub lands : LandingFits x.parts.code (following p instruction) instruction.argument
+  pub lands : LandingFits x.parts.code (following_place p instruction) instruction.argument
       (flow_of operation)
   pub closure : operation ≡ Close → AfterBlock x p
 

@@ -6,11 +6,11 @@ use Rattle.std.specs.Result.{MatchResult}
 use Rattle.values.specs.Faults.{fault}
 use Rattle.values.specs.Order.{unless, and_then}
 use Rattle.values.specs.declared.faults.Fault.{Fault}
-use Rattle.parcels.specs.Reading.{Reading, read_at, unreadable_rule}
+use Rattle.parcels.specs.Reading.{Reading, read_at, unreadable_rule, following_place}
 use Rattle.parcels.specs.declared.reading.Instruction.{Instruction}
 use Rattle.parcels.specs.declared.reading.Unreadable.{Unreadable}
 use Rattle.stages.specs.Encoding.{Context, site_fault}
-use Rattle.stages.specs.Sweep.{pushes_block, following, site, found_at, swept}
+use Rattle.stages.specs.Sweep.{pushes_block, site, found_at, swept}
 
 -- an answer: the fault, if there is one
 abbrev answer : Option Fault → Result (Unit {0}) Fault
@@ -78,7 +78,7 @@ module _ {x : Context} {b : Bool} {p : ℕ} where
   module _ (i : Instruction) (rest : List ℕ) (t : SweepAt x b p (Ok (i, rest))) where
     -- what is left behind the instruction
     abbrev further : Result (Unit {0}) Fault
-    further = left x t.fuel (pushes_block x.parts.literals i) (following p i)
+    further = left x t.fuel (pushes_block x.parts.literals i) (following_place p i)
 
     -- the instruction at p has answered r
     after : (r : Result (Unit {0}) Fault) → r ≡ answer (site_fault x (site p b i))
@@ -91,8 +91,8 @@ module _ {x : Context} {b : Bool} {p : ℕ} where
     broken f e = after (Err f) e
 
     -- it keeps them all
-    pub onward : Ok (tt {0}) ≡ answer (site_fault x (site p b i)) → p < following p i
-        → SweptSofar x (pushes_block x.parts.literals i) (following p i)
+    pub onward : Ok (tt {0}) ≡ answer (site_fault x (site p b i)) → p < following_place p i
+        → SweptSofar x (pushes_block x.parts.literals i) (following_place p i)
     onward e h = record {
       fuel = t.fuel;
       enough = omega (arith, t.enough, h);

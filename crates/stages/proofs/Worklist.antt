@@ -329,7 +329,7 @@ module _ {code : List ℕ} {limit : ℕ} {R : Result (List ℕ) Fault} {p a : �
   }
 
   -- a fault among them
-  pub found : (f : Fault)
+  pub fault_reached : (f : Fault)
       → Err f ≡ successors_reached (length code) p a ss (work hs₁ ws₁ n₁) → Err f ≡ R
-  found f e =
+  fault_reached f e =
       ap (λ (x : Result Work Fault). and_then x (iterate code limit t.fuel)) e ∙ t.same

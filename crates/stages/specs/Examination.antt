@@ -5,12 +5,11 @@ use Rattle.values.specs.Faults.{fault}
 use Rattle.values.specs.Order.{and_then}
 use Rattle.values.specs.declared.faults.Fault.{Fault}
 use Rattle.values.specs.declared.faults.Rule.TheVariants.{HeightLow, HeightOver, FallsOffEnd, HeightsDiffer}
-use Rattle.parcels.specs.Reading.{Reading, read_at}
+use Rattle.parcels.specs.Reading.{Reading, read_at, following_place}
 use Rattle.parcels.specs.Opcodes.{operation_of, effect_of, after, flow_of, successors_of}
 use Rattle.parcels.specs.declared.opcodes.Operation.{Operation}
 use Rattle.parcels.specs.declared.reading.Instruction.{Instruction}
 use Rattle.parcels.specs.declared.reading.TheConstants.{PAIR_BYTES}
-use Rattle.stages.specs.Sweep.{following}
 use Rattle.stages.specs.declared.heights.Transfer.{Transfer}
 use Rattle.stages.specs.declared.heights.TheConstants.{NO_HEIGHT}
 
@@ -27,7 +26,7 @@ transfer_by code next i (Some o) =
 -- the transfer of what is read at p
 abbrev pub transfer_read : List ℕ → ℕ → Reading → Transfer
 transfer_read code p (Err e) = no_transfer
-transfer_read code p (Ok r) = transfer_by code (following p r.0) r.0 (operation_of r.0.opcode)
+transfer_read code p (Ok r) = transfer_by code (following_place p r.0) r.0 (operation_of r.0.opcode)
 
 -- the transfer of the instruction at p
 abbrev pub transfer_of : List ℕ → ℕ → Transfer

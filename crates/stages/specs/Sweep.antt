@@ -1,12 +1,12 @@
 -- The encoding stage: the instructions in turn, from place 0 to the end of the code.
-use Rattle.std.specs.Prelude.{ℕ, zero, suc, ◌+◌, ◌-◌, ◌*◌, ◌%◌, Bool, true, false, if◌then◌else◌, ◌&&◌, List, [], ◌∷◌, length, Some, None, Ok, Err, Option, ◌==◌, nat_le}
+use Rattle.std.specs.Prelude.{ℕ, zero, suc, ◌-◌, ◌%◌, Bool, true, false, if◌then◌else◌, ◌&&◌, List, [], ◌∷◌, length, Some, None, Ok, Err, Option, ◌==◌, nat_le}
 use Rattle.std.specs.Option.{option_or}
 use Rattle.values.specs.Faults.{fault}
 use Rattle.values.specs.Order.{Test, test, first}
 use Rattle.values.specs.declared.faults.Fault.{Fault}
 use Rattle.values.specs.declared.faults.Rule.TheVariants.{CodeCut}
 use Rattle.parcels.specs.Literals.{literal}
-use Rattle.parcels.specs.Reading.{Reading, read_at, unreadable_rule}
+use Rattle.parcels.specs.Reading.{Reading, read_at, following_place, unreadable_rule}
 use Rattle.parcels.specs.Opcodes.{operation_of}
 use Rattle.parcels.specs.declared.reading.Instruction.{Instruction}
 use Rattle.parcels.specs.declared.reading.TheConstants.{PAIR_BYTES}
@@ -26,20 +26,16 @@ pushes_literal _ = false
 abbrev pub pushes_block : List ℕ → Instruction → Bool
 pushes_block ls i = pushes_literal (operation_of i.opcode) && is_block (literal ls i.argument)
 
--- the place after an instruction at p
-abbrev pub following : ℕ → Instruction → ℕ
-following p i = p + PAIR_BYTES * i.pairs
-
 -- an instruction where it stands; b says whether the one before it pushes a block
 abbrev pub site : ℕ → Bool → Instruction → Site
-site p b i = record { place = p; instruction = i; next = following p i; after_block = b }
+site p b i = record { place = p; instruction = i; next = following_place p i; after_block = b }
 
 -- the fault of what is read at p, or what is found further on
 abbrev pub found_at : Context → (Bool → ℕ → Option Fault) → Bool → ℕ → Reading → Option Fault
 found_at x further b p (Err e) = Some (fault (unreadable_rule e) p)
 found_at x further b p (Ok r) =
     option_or (site_fault x (site p b r.0))
-    (further (pushes_block x.parts.literals r.0) (following p r.0))
+    (further (pushes_block x.parts.literals r.0) (following_place p r.0))
 
 -- the first fault of the instructions from p on, of which there are at most n
 abbrev pub swept : Context → ℕ → Bool → ℕ → Option Fault

@@ -108,7 +108,8 @@ fn limits(rt: HostRuntime) -> Result<(), Fail> {
     )
 }
 
-// Each field of a method's flags at its greatest: the frame cells that the code may name, and the limit.
+// Each field of a method's flags at its greatest: the frame cells that the code may name, and the
+// limit.
 #[test]
 fn method_fields(rt: HostRuntime) -> Result<(), Fail> {
     let arguments = 32 + 31;

@@ -1,5 +1,5 @@
 // What the two lists hold after a check.
-use crate::bench::{Bench, Found};
+use crate::bench::{Bench, CheckResult};
 use crate::drafts::{Draft, block, method, with_flags};
 use checker::check;
 use samples::in_numbers;
@@ -10,7 +10,7 @@ use std::test::*;
 #[derive(Clone, Copy)]
 struct Left<'a> {
     draft: Draft<'a>,
-    want: Found,
+    want: CheckResult,
     heights: [u8; 5],
     waiting: [u16; 4],
 }
@@ -29,7 +29,7 @@ impl Left<'_> {
 }
 
 // Code as a method with 4 slots, what is found, and both lists afterwards.
-fn leaves(code: &[u8], want: Found, heights: [u8; 5], waiting: [u16; 4]) -> Left<'_> {
+fn leaves(code: &[u8], want: CheckResult, heights: [u8; 5], waiting: [u16; 4]) -> Left<'_> {
     Left {
         draft: method(code),
         want,
@@ -152,7 +152,7 @@ fn refused_by_flags(rt: HostRuntime) -> Result<(), Fail> {
 }
 
 // The same for bytes of any sort, refused before the lists are used: no draft has them.
-fn untouched(rt: &impl Abort, bench: &Bench, bytes: &[u8], want: Found) -> Result<(), Fail> {
+fn untouched(rt: &impl Abort, bench: &Bench, bytes: &[u8], want: CheckResult) -> Result<(), Fail> {
     let mut heights = [7; 5];
     let mut waiting = [9; 4];
     let answer = check(&bench.host, bytes, false, &mut heights, &mut waiting);
@@ -224,7 +224,7 @@ fn over_lists(
     code: &[u8],
     heights: &mut [u8],
     waiting: &mut [u16],
-) -> Result<Found, Fail> {
+) -> Result<CheckResult, Fail> {
     let bytes = method(code).bytes(bench.heap)?;
     Ok(in_numbers(check(&bench.host, &bytes, false, heights, waiting)))
 }

@@ -1,12 +1,17 @@
 // The stage literals.
-use crate::bench::{Bench, Found};
+use crate::bench::{Bench, CheckResult};
 use crate::drafts::with_literals;
 use samples::{BINDING_0, BINDING_1, BINDING_2, BLOCK, Entry, KEYWORD, NIL, OBJECT, UNARY};
 use std::process::Abort;
 use std::test::*;
 
 // Literals of a method that turns for ever, and what is to be found.
-fn expect(rt: &impl Abort, bench: &Bench, literals: &[Entry], want: Found) -> Result<(), Fail> {
+fn expect(
+    rt: &impl Abort,
+    bench: &Bench,
+    literals: &[Entry],
+    want: CheckResult,
+) -> Result<(), Fail> {
     bench.drafts(rt, &[(with_literals(literals, &[40, 2]), want)])
 }
 

@@ -1,12 +1,12 @@
 // Small methods over the week file, by the check and by the listing.
-use crate::bench::{Bench, Found};
+use crate::bench::{Bench, CheckResult};
 use crate::drafts::method;
 use listing::list;
 use samples::in_numbers;
 use std::test::*;
 
 // Every code and what is found of it.
-const CASES: [(&[u8], Found); 15] = [
+const CASES: [(&[u8], CheckResult); 15] = [
     (&[56, 0, 51, 0], Ok(1)),
     (&[40, 2], Ok(0)),
     (&[51, 0], Err((21, 0))),

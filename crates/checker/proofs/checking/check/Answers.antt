@@ -1,4 +1,4 @@
-use mathlib.Core.Path.{sym, ap, subst}
+use Rattle.std.proofs.Common.{sym, ap, subst}
 use Rattle.hosts.specs.Meaning.{Marks}
 use Rattle.stages.specs.Check.{question, question_on, checked}
 use Rattle.soundness.specs.Verdicts.{VerdictMeans}
@@ -7,7 +7,9 @@ use Rattle.checker.proofs.checking.check.Goals as goal
 
 pub returns : goal.returns
 returns g c =
-    let q = question_on (g.H.Host.means c.args.host.now) c.args.trusted c.args.bytes.now c.args.heights.now c.args.waiting.now in
+    let hs = c.args.heights.now in
+    let ws = c.args.waiting.now in
+    let q = question_on (g.H.Host.means c.args.host.now) c.args.trusted c.args.bytes.now hs ws in
     let v = sym c.pass_stages.ensures.verdict in
     let h = sym c.pass_stages.ensures.heights in
     let w = sym c.pass_stages.ensures.waiting in
@@ -15,6 +17,8 @@ returns g c =
       verdict = c.pass_stages.ensures.verdict;
       heights = c.pass_stages.ensures.heights;
       waiting = c.pass_stages.ensures.waiting;
-      means = subst (VerdictMeans q) (λ i. record { verdict = v i; heights = h i; waiting = w i }) (every_verdict_means q);
+      means =
+          subst (VerdictMeans q) (λ i. record { verdict = v i; heights = h i; waiting = w i })
+          (every_verdict_means q);
       kinds = λ x y e t b hs ws. ap (λ (n : Marks). checked (question n t b hs ws)) e;
     }

@@ -4,4 +4,6 @@ use Rattle.listing.specs.Listed.{verdict_over}
 use Rattle.listing.proofs.listed.list.Goals as goal
 
 pub returns-clause-answer : goal.returns-clause-answer
-returns-clause-answer c = c.verdict_of.ensures ∙ ap (λ (f : List ℕ). verdict_over f MAX_PAIRS c.args.parcel.now) c.in_ok-host.ensures
+returns-clause-answer c =
+    c.verdict_of.ensures
+    ∙ ap (λ (f : List ℕ). verdict_over f MAX_PAIRS c.args.parcel.now) c.in_ok-host.ensures

@@ -2,7 +2,7 @@ use Rattle.std.proofs.Common.{◌≡◌, ◌+◌, ◌-◌, ◌*◌, ◌/◌, ◌
 use Rattle.std.proofs.lemmas.List.{get_or_read}
 use Rattle.std.proofs.lemmas.Bool.{cond-true, lt-ltb}
 use Rattle.stages.specs.Examination.{height_after, examined}
-use Rattle.stages.proofs.Worklist.{Taken, Reaching, start, take, none, low, high, reaching, past, other, known, new, skip, again, found, moved}
+use Rattle.stages.proofs.Worklist.{Taken, Reaching, start, take, none, low, high, reaching, past, other, known, new, skip, again, fault_reached, moved}
 use Rattle.stages.proofs.heights.examine.Goals as goal
 use Rattle.stages.proofs.heights.examine.Goals.{In-Some, Else-after-limit, in-Some-to+else-s-code+then-heights-s, in-Some-to+else-s-code+else-heights-s+else-heights-s-2, in_default-to}
 
@@ -73,7 +73,7 @@ returns-then-s-code c =
     let to = c.transfer_at-transfer.result.to in
     let is : get_or to c.loop-to.to-index None ≡ Some c.in-Some-to.s = search rules in
     ap Err c.at-then-s-code.ensures
-    ∙ found (reached (goal.at.returns-then-s-code c).Else-after-limit) _
+    ∙ fault_reached (reached (goal.at.returns-then-s-code c).Else-after-limit) _
     (past c.loop-to.invariant c.in-Some-to.s (grind arith) is c.if-s-code.true)
 
 pub returns-then-heights-s-2 : goal.returns-then-heights-s-2
@@ -81,7 +81,7 @@ returns-then-heights-s-2 c =
     let to = c.transfer_at-transfer.result.to in
     let is : get_or to c.loop-to.to-index None ≡ Some c.in-Some-to.s = search rules in
     ap Err c.at-then-heights-s-2.ensures
-    ∙ found (reached (goal.at.returns-then-heights-s-2 c).Else-after-limit) _
+    ∙ fault_reached (reached (goal.at.returns-then-heights-s-2 c).Else-after-limit) _
     (other c.loop-to.invariant c.in-Some-to.s (grind arith) is
     c.if-s-code.false c.if-heights-s.false c.if-heights-s-2.true)
 

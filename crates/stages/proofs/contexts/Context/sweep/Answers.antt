@@ -1,9 +1,8 @@
 use Rattle.std.proofs.Common.{◌≡◌, ℕ, false, List, Ok, Err, sym, ap, ◌∙◌, subst, arith, rules}
 use Rattle.values.specs.Faults.{fault}
 use Rattle.values.specs.declared.faults.Fault.{Fault}
-use Rattle.parcels.specs.Reading.{Reading, as_reading, read_at, unreadable_rule}
+use Rattle.parcels.specs.Reading.{Reading, as_reading, read_at, unreadable_rule, following_place}
 use Rattle.stages.specs.Contexts.{context_of}
-use Rattle.stages.specs.Sweep.{following}
 use Rattle.stages.proofs.Exits.{passed_on}
 use Rattle.stages.proofs.SweepSteps.{SweptSofar, SweepAt, start, ended, sweep_at, unread, broken, onward, got, lost}
 use Rattle.stages.proofs.contexts.Context.sweep.Given as given
@@ -63,7 +62,7 @@ read_there g c =
 -- the place after it
 next : (g : given.Over) (c : In_ok-instruction g)
     → c.advance.new.self.place
-    ≡ following c.loop-reader.reader.place c.in_ok-instruction.instruction
+    ≡ following_place c.loop-reader.reader.place c.in_ok-instruction.instruction
 next g c = let is = read g c in rw is at c.advance.ensures.place
 
 pub returns-in_err-check_site : goal.returns-in_err-check_site
