@@ -24,11 +24,11 @@ use Rattle.parcels.specs.declared.opcodes.Operation.TheVariants.{Send, SendSelec
 use Rattle.parcels.specs.declared.reading.Instruction.{Instruction}
 use Rattle.stages.specs.Encoding.{stores_trusted, names_trusted}
 use Rattle.soundness.specs.Rules.{OperandFits, LandingFits}
-use Rattle.semantics.specs.Scripts.{Access, read_cell, read_cells, write_cell, read_literal, read_row, write_row, Script, given, special, integer, must_be_boolean, from_source, pushing, sending}
+use Rattle.semantics.specs.Scripts.{Access, read_cell, read_cells, write_cell, read_literal, read_row, write_row, send, Script, given, special, integer, must_be_boolean, from_source, pushing, sending}
 use Rattle.semantics.specs.Execution.{Everywhere}
 use Rattle.semantics.specs.Steps.{code_context_of, working_base, frame_cells, script_at}
-use Rattle.semantics.specs.Laws.{Counts, row_count, InBounds, Stack, InUse, NotStuck}
-use Rattle.semantics.proofs.Executing.{WritesOpen, everywhere_map}
+use Rattle.semantics.specs.Properties.{Counts, row_count, InBounds, Stack, InUse, NotStuck}
+use Rattle.semantics.proofs.Executing.{WritesOpen, NoMessage, LeavesHost, everywhere_map}
 use Rattle.semantics.proofs.Operations.{chosen, closed, replied}
 
 -- a literal that is there has a number below the count
@@ -64,6 +64,13 @@ StoresTo ls a (Store target.Variable) Variables k = k ≡ a
 StoresTo ls a (Store target.Binding) Bindings k = literal ls a ≡ Some (Binding k)
 StoresTo ls a _ _ _ = ⊥
 
+-- the operations that may send a message
+abbrev pub MaySend : Operation → Type 0
+MaySend Send = Unit {0}
+MaySend (SendSelector s) = Unit {0}
+MaySend (Branch w) = Unit {0}
+MaySend _ = ⊥
+
 module _ (p : Parts) (q h : ℕ) (i : Instruction) where
   abbrev pub stack_at : Operation → Stack
   stack_at o = record {
@@ -87,6 +94,7 @@ module _ (p : Parts) (q h : ℕ) (i : Instruction) where
     Permitted o (read_literal k) = k < p.layout.literal_count
     Permitted o (read_row r k) = k < row_count counts_at r
     Permitted o (write_row r k v) = (k < row_count counts_at r) × StoresTo p.literals i.argument o r k
+    Permitted o (send m) = MaySend o
     Permitted o a = InUse (stack_at o) a
 
     abbrev pub Permits : Operation → Script → Type 0
@@ -104,13 +112,14 @@ module _ (p : Parts) (q h : ℕ) (i : Instruction) where
       pushes o v below room = (inr (below, inr (omega (arith, room))), λ _. tt)
 
       sends : (o : Operation) (super : Bool) (n c : ℕ) → (effect_of o i).takes ≡ c + 1 → c + 1 ≤ h
+          → MaySend o
           → Permits o (sending (code_context_of p) i next h super n c)
-      sends o super n c t need = (
+      sends o super n c t need may_send = (
         omega (arith, need),
         λ r. (
           omega (arith, need),
           λ xs. (
-            tt,
+            may_send,
             λ a.
                 replied (Permits o) (message super n r xs) a tt (λ v. (inr (omega (arith, need, t), inl (omega (arith, need))), λ _. tt)),
           ),
@@ -141,12 +150,12 @@ module _ (p : Parts) (q h : ℕ) (i : Instruction) where
       pub permitted : (o : Operation) → OperandFits p variables i.argument o
           → LandingFits p.code next i.argument (flow_of o) → (effect_of o i).takes ≤ h
           → Permits o (script_at p q h i o)
-      permitted Send fit lands need = sends Send false i.opcode (arity_of i.opcode) refl need
+      permitted Send fit lands need = sends Send false i.opcode (arity_of i.opcode) refl need tt
       permitted (SendSelector s) fit lands need =
           let e = fit.1 in (
             literal_there p.literals p.layout.literal_count (i.argument / 256) (Selector fit.0 (i.argument % 256)) long e,
             there (Permits (SendSelector s)) _ (selector_of (literal p.literals (i.argument / 256))) fit.0 (ap selector_of e)
-                (sends (SendSelector s) s fit.0 (i.argument % 256) refl need),
+                (sends (SendSelector s) s fit.0 (i.argument % 256) refl need tt),
           )
       permitted (Push s) fit lands need =
           sourced (Push s) s (pushing (code_context_of p) i next h) fit (λ v. pushes (Push s) v (omega arith) (omega arith))
@@ -184,10 +193,30 @@ module _ (p : Parts) (q h : ℕ) (i : Instruction) where
     in_use o (read_literal k) w = tt
     in_use o (read_row r k) w = tt
     in_use o (write_row r k v) w = tt
+    in_use o (send m) w = tt
     in_use o a w = w
 
     pub all_in_use : (o : Operation) (c : Script) → Permits o c → Everywhere p.literals (InUse (stack_at o)) NotStuck c
     all_in_use o = everywhere_map p.literals (Permitted o) (InUse (stack_at o)) NotStuck NotStuck (in_use o) (λ l x. x)
+
+    -- where no message may be sent, none is
+    module _ (o : Operation) (none : MaySend o → ⊥) where
+      silent : (a : Access) → Permitted o a → NoMessage a
+      silent (send m) w = none w
+      silent a w = tt
+
+      pub all_silent : (c : Script) → Permits o c → Everywhere p.literals NoMessage (λ _. Unit {0}) c
+      all_silent = everywhere_map p.literals (Permitted o) NoMessage NotStuck (λ _. Unit {0}) silent (λ l x. tt)
+
+      -- and where nothing may be stored either, the host is left
+      module _ (unstored : (r : Row) (k : ℕ) → StoresTo p.literals i.argument o r k → ⊥) where
+        leaves : (a : Access) → Permitted o a → LeavesHost a
+        leaves (send m) w = none w
+        leaves (write_row r k v) w = unstored r k w.1
+        leaves a w = tt
+
+        pub all_leave : (c : Script) → Permits o c → Everywhere p.literals LeavesHost NotStuck c
+        all_leave = everywhere_map p.literals (Permitted o) LeavesHost NotStuck NotStuck leaves (λ l x. x)
 
     -- and lies below its count
     module _ (fits : p.layout.local_count ≤ p.layout.slot_count) (low : h ≤ limit_of p.layout) where

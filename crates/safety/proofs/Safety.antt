@@ -21,7 +21,7 @@ use Rattle.semantics.proofs.Executing.{like}
 use Rattle.semantics.specs.Opening.{Opened, open_tests, opened_unless, opened_by, opened, begun, empty}
 use Rattle.safety.specs.Histories.{HeldRuns, Holds, Call, takes, opens, steps, collects, History, new, called, OpensUntrusted, Untrusted, Safe, EveryHistoryIsSafe}
 use Rattle.safety.proofs.Readiness.{accepted_ready, accepted_open}
-use Rattle.safety.proofs.Stepping.{Sound, placed, made, still_sound, progress, keeps}
+use Rattle.safety.proofs.Stepping.{Sound, placed, made, still_sound, progress, same_within, keeps}
 
 -- the runs that are held after one of them changed
 pub held_length : (rs : HeldRuns) (k : ℕ) (run : RunView) → Holds rs k run → k < length rs
@@ -202,8 +202,11 @@ module _ {S : Type 0} (means : S → Meaning) (may : S → Sent → Value → S 
         marks_length (means s).variables ∙ ap (λ (n : Marks). length n.variables) x.same.marks ∙ sym sound.variables in
         let b : length (means s).bindings ≡ run.binding_count =
         marks_length (means s).bindings ∙ ap (λ (n : Marks). length n.bindings) x.same.marks ∙ sym sound.bindings in
-        progress means may run (marks_of (means s₀)) (x.runs k run e l).0 sound f s a run' f' s'
-        (made means may run f s a run' f' s' (none_applies run f (means s) l v b c) st) l;
+        let d = made means may run f s a run' f' s' (none_applies run f (means s) l v b c) st in (
+          progress means may run (marks_of (means s₀)) (x.runs k run e l).0 sound f s a run' f' s' d l,
+          same_within means may run (marks_of (means s₀)) (x.runs k run e l).0 sound f s a run' f' s' d,
+        );
+    unchanged = x.same;
     trusted = λ u row i e.
         open_trusted (row_of (means s₀) row) (row_of (means s) row) i ((x.cells u).cells row)
         (subst (λ (n : List Bool). marked n i ≡ true) (row_marks (means s₀) row) e);

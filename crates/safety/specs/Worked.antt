@@ -1,5 +1,5 @@
 -- Three runs, worked out.
-use Rattle.std.specs.Prelude.{◌≡◌, ℕ, ◌/◌, ◌%◌, false, List, [], ◌∷◌, ◌++◌, length, replicate, Ok}
+use Rattle.std.specs.Prelude.{◌≡◌, ℕ, ◌/◌, ◌%◌, false, List, [], ◌∷◌, ◌++◌, length, replicate, Some, Ok}
 use Rattle.std.specs.Option.{unwrap_or}
 use Rattle.values.specs.declared.kinds.Value.{Value}
 use Rattle.values.specs.declared.kinds.Value.TheVariants.{Nil, Object}
@@ -74,7 +74,7 @@ ThousandRuns a f = let run = (opens thousand (a ∷ f)).run in
 abbrev pub PuttingStops : (a b c d : Value) → Type 0
 PuttingStops a b c d = let f = a ∷ b ∷ c ∷ d ∷ [] in let run = at (opens putting f).run 6 3 in
     ((opens putting f).answer ≡ Ok 3)
-    × Sends run f (message false 17 a (b ∷ c ∷ []))
+    × Sends run f (message false 17 a (b ∷ c ∷ [])) (Some 0)
     × BareStep run f (Ok tt) (record run { state = Stopped (NotUnderstood 17) }) f
 
 -- three runs, worked out, with any contents of the frame

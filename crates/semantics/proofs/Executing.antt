@@ -1,16 +1,48 @@
 -- What comes of a script, by what holds of it.
-use Rattle.std.proofs.Common.{◌≡◌, ℕ, Bool, true, false, ◌⊎◌, List, Some, None, MatchBool, MatchOption, Option, sym, refl, ap, ◌∙◌, subst, inl, inr}
+use Rattle.std.proofs.Common.{◌≡◌, ℕ, Bool, true, false, ◌⊎◌, List, Some, None, MatchBool, MatchOption, Option, get_or, sym, refl, ap, ◌∙◌, subst, inl, inr}
 use Rattle.std.proofs.lemmas.List.{get_or-set_other}
 use Rattle.values.specs.declared.kinds.Value.{Value}
 use Rattle.values.specs.declared.kinds.Value.TheVariants.{Nil}
 use Rattle.hosts.specs.declared.rows.Row.{Row}
 use Rattle.hosts.specs.declared.rows.Row.TheVariants.{Variables, Bindings}
-use Rattle.hosts.specs.Meaning.{Meaning, Sent, Marks, Kept, Like, Answered, marks_of, marks_in, marked, with_cell}
+use Rattle.hosts.specs.Meaning.{Meaning, Sent, Marks, row_of, cell_value, Kept, Like, Answered, marks_of, marks_in, marked, with_cell}
 use Rattle.hosts.proofs.Cells.{put_other, kept_same, kept_trans, kept_like, like_trans, like_same, write_like, write_kept}
 use Rattle.parcels.specs.Literals.{literal}
 use Rattle.semantics.specs.Scripts.{Access, write_cell, read_literal, write_row, send, Answer, Outcome, Leaf, comes_to, stuck, Script, act, done}
 use Rattle.semantics.specs.Execution.{answer_of, frame_after, Does, Exec, ForAnswers, Everywhere}
-use Rattle.semantics.specs.Laws.{Location, in_frame, in_row, held_at, OutOfReach, Spares, Preserves}
+
+-- where a value is held: a cell of the frame, or a cell of one of the host's rows
+pub data Location : Type 0 where
+  in_frame : ℕ → Location
+  in_row : Row → ℕ → Location
+
+-- what is held there
+abbrev pub held_at : Location → List Value → Meaning → Value
+held_at (in_frame i) f m = get_or f i Nil
+held_at (in_row r i) f m = cell_value (row_of m r) i
+
+-- a message may alter the host, and never the frame
+abbrev pub OutOfReach : Location → Type 0
+OutOfReach (in_frame i) = Unit {0}
+OutOfReach (in_row r i) = ⊥
+
+-- an access writes elsewhere, and is no message that might alter the location
+abbrev pub Spares : Location → Access → Type 0
+Spares p (write_cell i v) = in_frame i ≡ p → ⊥
+Spares p (write_row r i v) = in_row r i ≡ p → ⊥
+Spares p (send m) = OutOfReach p
+Spares p _ = Unit {0}
+
+-- an access is no message
+abbrev pub NoMessage : Access → Type 0
+NoMessage (send m) = ⊥
+NoMessage _ = Unit {0}
+
+-- an access leaves the host: it is no write to a row and no message
+abbrev pub LeavesHost : Access → Type 0
+LeavesHost (write_row r i v) = ⊥
+LeavesHost (send m) = ⊥
+LeavesHost _ = Unit {0}
 
 -- an access writes no trusted cell
 abbrev pub WritesOpen : Marks → Access → Type 0
@@ -116,16 +148,34 @@ module _ (literals : List ℕ) {S : Type 0} (means : S → Meaning) (may : S →
 
   pub unwritten : (p : Location) (c : Script)
       (f : List Value) (s : S) (o : Outcome) (f' : List Value) (s' : S)
-      → Preserves literals p c → Exec literals means may c f s o f' s'
+      → Everywhere literals (Spares p) (λ _. Unit {0}) c → Exec literals means may c f s o f' s'
       → held_at p f' (means s') ≡ held_at p f (means s)
   unwritten p (act a k) f s o f' s' w r =
       let d = did a f s (λ x g t. Exec literals means may (k x) g t o f' s') r in
       unwritten p (k d.0) d.1 d.2 o f' s'
-      (for_answer a (λ x. Preserves literals p (k x)) f s d.0 d.1 d.2 w.1 d.3) d.4
+      (for_answer a (λ x. Everywhere literals (Spares p) (λ _. Unit {0}) (k x)) f s d.0 d.1 d.2 w.1 d.3) d.4
       ∙ spared p a f s d.0 d.1 d.2 w.0 d.3
   unwritten p (done (comes_to q)) f s o f' s' w r =
       ap (λ (h : List Value). held_at p h (means s')) r.1 ∙ ap (λ (u : S). held_at p f (means u)) r.2
   unwritten p (done stuck) f s o f' s' w r = absurd r
+
+  -- a script that leaves the host leaves it
+  pub host_left : (L : Leaf → Type 0) (c : Script)
+      (f : List Value) (s : S) (o : Outcome) (f' : List Value) (s' : S)
+      → Everywhere literals LeavesHost L c → Exec literals means may c f s o f' s' → s' ≡ s
+  host_left L (act a k) f s o f' s' w r =
+      let d = did a f s (λ x g t. Exec literals means may (k x) g t o f' s') r in
+      host_left L (k d.0) d.1 d.2 o f' s'
+      (for_answer a (λ x. Everywhere literals LeavesHost L (k x)) f s d.0 d.1 d.2 w.1 d.3) d.4
+      ∙ same a f s d.0 d.1 d.2 w.0 d.3
+    where
+      same : (a : Access) (f : List Value) (s : S) (x : Answer a) (g : List Value) (t : S)
+          → LeavesHost a → Did a f s x g t → t ≡ s
+      same (write_row q i v) f s x g t n d = absurd n
+      same (send m) f s x g t n d = absurd n
+      same a f s x g t n d = d.2
+  host_left L (done (comes_to q)) f s o f' s' w r = r.2
+  host_left L (done stuck) f s o f' s' w r = absurd r
 
   module _ (lawful : (s t : S) (m : Sent) (v : Value) → may s m v t → Kept (means s) (means t)) where
     -- what one access leaves of a host

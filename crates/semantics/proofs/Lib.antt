@@ -1,3 +1,4 @@
 pub mod Executing
 pub mod Operations
 pub mod Telling
+pub mod Agreeing

@@ -19,9 +19,8 @@ use Rattle.semantics.specs.declared.states.Stop.{Stop}
 use Rattle.semantics.specs.declared.states.Stop.TheVariants.{NotUnderstood, NoBlock}
 use Rattle.semantics.specs.Scripts.{Access, write_cell, read_literal, write_row, send, Answer, Outcome, continues, stops, must_be_boolean, Leaf, comes_to, stuck, Script, act, done, answered, given, choose, closed_over, special, integer, from_source, pushing, sending}
 use Rattle.semantics.specs.Execution.{answer_of, frame_after, Exec, ForAnswers, Everywhere}
+use Rattle.semantics.proofs.Executing.{NoMessage}
 use Rattle.semantics.specs.Steps.{code_context_of, script_at}
-use Rattle.semantics.specs.Laws.{NoMessage, SendsNone, SendsOnce, Agrees, Counts, InBounds, NotStuck, in_frame, Spares, ScriptLaws}
-use Rattle.semantics.proofs.Executing.{sent_is, everywhere_leaf, everywhere_map, unwritten}
 
 -- either of two
 pub either : {X : Type 0} (F : X → Type 0) (w : Bool) {t f : X} → F t → F f → F (if w then t else f)
@@ -147,22 +146,6 @@ module _ (literals : List ℕ) where
   Settles (act a k) = ForAnswers literals a (λ x. Settles (k x))
   Settles (done l) = Unit {0}
 
-  comes_none : (o : Outcome) (c : Script) → Comes o c → SendsNone literals c
-  comes_none o (act (read_literal i) k) w = (w.0, comes_none o (k (literal literals i)) w.1)
-  comes_none o (act (send m) k) w = absurd w.0
-  comes_none o (act a k) w = (w.0, λ x. comes_none o (k x) (w.1 x))
-  comes_none o (done l) w = tt
-
-  pub settles_once : (c : Script) → Settles c → SendsOnce literals c
-  settles_once (act (read_literal i) k) w = settles_once (k (literal literals i)) w
-  settles_once (act (send m) k) w = λ x. by x
-    where
-      by : (x : Option Value) → SendsNone literals (k x)
-      by None = comes_none w.1 (k None) w.2
-      by (Some v) = comes_none w.0 (k (Some v)) (w.3 v)
-  settles_once (act a k) w = λ x. settles_once (k x) (w x)
-  settles_once (done l) w = tt
-
 module _ (p : Parts) (q h : ℕ) (i : Instruction) where
   abbrev F : Script → Type 0
   F = Settles p.literals
@@ -194,65 +177,3 @@ module _ (p : Parts) (q h : ℕ) (i : Instruction) where
   settles Close = λ v. closed F v tt (λ w _. tt)
   settles (End e) = λ v. tt
   settles o = tt
-
-module _ {S : Type 0} (means : S → Meaning) (may : S → Sent → Value → S → Type 0) (literals : List ℕ) where
-  -- the outcome depends on what is read alone
-  same_outcome : (c : Script) (f : List Value) (s : S) (o : Outcome) (f' : List Value) (s' : S)
-      (g : List Value) (t : S) (a : Outcome) (g' : List Value) (t' : S)
-      → Settles literals c → Agrees literals c f (means s) g (means t)
-      → Exec literals means may c f s o f' s' → Exec literals means may c g t a g' t' → a ≡ o
-  same_outcome (act (read_literal i) k) f s o f' s' g t a g' t' w e r x =
-      same_outcome (k (literal literals i)) f s o f' s' g t a g' t' w e.1 r x
-  same_outcome (act (write_row q i v) k) f s o f' s' g t a g' t' w e r x =
-      same_outcome (k tt) f r.0 o f' s' g x.0 a g' t' (w tt)
-      (subst (λ (m : Meaning). Agrees literals (k tt) f m g (means x.0)) (sym r.1)
-      (subst (λ (n : Meaning). Agrees literals (k tt) f (with_cell (means s) q i v) g n) (sym x.1) e.1)) r.2 x.2
-  same_outcome (act (send m) k) f s o f' s' g t a g' t' w e r x = elim (sent_is literals means may s r.1 m r.0 r.2) [
-    | inl y ↦ elim (sent_is literals means may t x.1 m x.0 x.2) [
-      | inl z ↦ came (Some z.0) w.0 g x.1 a g' t' (w.3 z.0) z.1 x.3 ∙ sym (came (Some y.0) w.0 f r.1 o f' s' (w.3 y.0) y.1 r.3)
-      | inr z ↦ absurd (differ (sym z.2 ∙ e ∙ y.3))
-    ]
-    | inr y ↦ elim (sent_is literals means may t x.1 m x.0 x.2) [
-      | inl z ↦ absurd (differ (sym y.2 ∙ sym e ∙ z.3))
-      | inr z ↦ came None w.1 g x.1 a g' t' w.2 z.0 x.3 ∙ sym (came None w.1 f r.1 o f' s' w.2 y.0 r.3)
-    ]
-  ]
-    where
-      differ : ◌≡◌ {A = Bool} false true → ⊥
-      differ d = absurd cc
-
-      came : {b : Option Value} (y : Option Value) (u : Outcome) (f : List Value) (s : S) (o : Outcome) (f' : List Value) (s' : S)
-          → Comes literals u (k y) → b ≡ y → Exec literals means may (k b) f s o f' s' → o ≡ u
-      came {b} y u f s o f' s' c q d =
-          let l = everywhere_leaf literals means may NoMessage (λ l. l ≡ comes_to u) (k y) f s o f' s' c
-          (subst (λ (z : Option Value). Exec literals means may (k z) f s o f' s') q d) in cc
-  same_outcome (act a k) f s o f' s' g t b g' t' w e r x =
-      let v = answer_of literals a f (means s) in
-      same_outcome (k v) (frame_after a f) s o f' s' (frame_after a g) t b g' t' (w v) e.1 r
-      (subst (λ (y : Answer a). Exec literals means may (k y) (frame_after a g) t b g' t') e.0 x)
-  same_outcome (done (comes_to y)) f s o f' s' g t a g' t' w e r x = x.0 ∙ sym r.0
-  same_outcome (done stuck) f s o f' s' g t a g' t' w e r x = absurd r
-
--- a script that stays below a number of cells leaves every cell from there on
-spared_beyond : (n : Counts) (j : ℕ) → n.cells ≤ j → (a : Access) → InBounds n a → Spares (in_frame j) a
-spared_beyond n j past (write_cell i v) w = λ e. let z : i ≡ j = cc in absurd (omega (arith, w, past, z))
-spared_beyond n j past (write_row r i v) w = λ e. absurd cc
-spared_beyond n j past a w = tt
-
-module _ {S : Type 0} (means : S → Meaning) (may : S → Sent → Value → S → Type 0) where
-  pub script_laws : ScriptLaws means may
-  script_laws = record {
-    once = λ p q h i o. settles_once p.literals (script_at p q h i o) (settles p q h i o);
-    leads = λ p q h i o f f' s s' r k n x.
-        everywhere_leaf p.literals means may (λ _. Unit {0}) (Lands p q h i o) (script_at p q h i o)
-        f s (continues r k) f' s' (leads_to p q h i o n) x;
-    unwritten = λ p q h i o x f f' s s' a w r.
-        unwritten p.literals means may x (script_at p q h i o) f s a f' s' w r;
-    beyond = λ p q h i o n f f' s s' a w r j past.
-        unwritten p.literals means may (in_frame j) (script_at p q h i o) f s a f' s'
-        (everywhere_map p.literals (InBounds n) (Spares (in_frame j)) NotStuck (λ _. Unit {0})
-        (spared_beyond n j past) (λ l x. tt) (script_at p q h i o) w) r;
-    same_outcome = λ p q h i o f f' g g' s s' t t' a b e r x.
-        same_outcome means may p.literals (script_at p q h i o) f s a f' s' g t b g' t'
-        (settles p q h i o) e r x;
-  }

@@ -11,11 +11,6 @@ abbrev pub frame_after : Access → List Value → List Value
 frame_after (write_cell i v) f = slice_set f i v
 frame_after _ f = f
 
--- the host's meaning after an access that is no message
-abbrev pub meaning_after : Access → Meaning → Meaning
-meaning_after (write_row r i v) m = with_cell m r i v
-meaning_after _ m = m
-
 module _ (literals : List ℕ) where
   -- what an access answers, from a frame and a host's meaning; a message is answered by the host
   abbrev pub answer_of : (a : Access) → List Value → Meaning → Answer a

@@ -2,4 +2,4 @@ pub mod Scripts
 pub mod Execution
 pub mod Steps
 pub mod Opening
-pub mod Laws
+pub mod Properties
