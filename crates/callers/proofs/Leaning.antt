@@ -1,30 +1,32 @@
 -- What callers rely on follows from the clauses of a step.
-use Rattle.std.proofs.Common.{◌≡◌, ℕ, ◌*◌, ◌/◌, ◌≤◌, true, false, not, List, length, slice_index_or, Some, None, Ok, Err, Option, Result, sym, refl, ap, subst, arith}
+use Rattle.std.proofs.Common.{◌≡◌, ℕ, ◌*◌, ◌/◌, ◌≤◌, true, false, not, List, length, slice_index_or, Some, None, Ok, Err, Option, Result, sym, refl, ap, ◌∙◌, subst, arith}
 use Rattle.std.specs.Prelude.{◌↔◌}
+use Rattle.std.proofs.lemmas.Bool.{eqb-true, ltb-false}
 use Rattle.std.proofs.lemmas.List.{get_or-set_same}
 use Rattle.std.proofs.lemmas.Option.{none-some, same_Some}
 use Rattle.values.specs.Order.{first}
 use Rattle.values.specs.declared.faults.Fault.{Fault}
 use Rattle.values.specs.declared.kinds.Value.{Value}
 use Rattle.values.specs.declared.kinds.Value.TheVariants.{Nil}
-use Rattle.hosts.specs.Meaning.{Meaning, Sent}
-use Rattle.parcels.specs.Opcodes.{operation_of}
-use Rattle.parcels.specs.Reading.{Reading, read_at, starts_at}
+use Rattle.hosts.specs.Meaning.{Meaning, Sent, row_of}
+use Rattle.hosts.specs.declared.rows.Row.{Row}
+use Rattle.hosts.specs.declared.rows.Row.TheVariants.{Variables, Bindings}
+use Rattle.parcels.specs.Opcodes.{operation_of, effect_of, after}
+use Rattle.parcels.specs.Instructions.{InstructionAt}
+use Rattle.parcels.specs.Reading.{starts_at}
 use Rattle.parcels.specs.declared.opcodes.Operation.{Operation}
 use Rattle.parcels.specs.declared.reading.Instruction.{Instruction}
 use Rattle.soundness.specs.Paths.{Path}
 use Rattle.soundness.proofs.Transfers.{start_even}
-use Rattle.soundness.proofs.Orders.{first_none}
-use Rattle.semantics.specs.Execution.{Exec}
-use Rattle.semantics.specs.Laws.{Within, ScriptLaws}
-use Rattle.semantics.specs.Scripts.{Outcome}
-use Rattle.semantics.specs.Steps.{RunView, CallAnswer, StepUnless, Step, step_tests, is_live, frame_cells, script_for, script_read}
+use Rattle.soundness.proofs.Orders.{first_none, same_read}
+use Rattle.semantics.specs.Properties.{row_count, AgreeBelow}
+use Rattle.semantics.specs.Steps.{RunView, CallAnswer, StepUnless, Step, step_tests, has_counts, is_live, frame_cells, working_base}
 use Rattle.semantics.specs.declared.states.State.{State}
 use Rattle.semantics.specs.declared.states.State.TheVariants.{Live, Ended, Stopped}
 use Rattle.semantics.specs.declared.states.Stop.{Stop}
-use Rattle.safety.specs.Histories.{counts_of, ExtendsHistory, WellPlaced, EveryHistoryIsSafe}
+use Rattle.safety.specs.Histories.{counts_of, ExtendsHistory, WellPlaced, Progress, SameWithin, Sends, EveryHistoryIsSafe}
 use Rattle.safety.proofs.Safety.{held_length}
-use Rattle.callers.specs.Relying.{Reached, TotalsStay, MadeFor, Explained, SeenRight}
+use Rattle.callers.specs.Relying.{Reached, SheetStays, Regardless, Measured, MadeFor, Explained, SeenRight}
 
 live_of : (st : State) → not (is_live st) ≡ false → st ≡ Live
 live_of Live e = refl
@@ -45,40 +47,56 @@ made_is (Stopped y) x = ((λ e. ap Stopped (same_Some _ _ e)), (λ e. ap made_in
 iff_trans : {P Q R : Type 0} → P ↔ Q → Q ↔ R → P ↔ R
 iff_trans a b = ((λ p. b.0 (a.0 p)), (λ r. a.1 (b.1 r)))
 
-module _ {S : Type 0} (means : S → Meaning) (may : S → Sent → Value → S → Type 0) where
-  -- the next script of a run leaves the cells behind those that it stays within
-  module _ (laws : ScriptLaws means may) (run : RunView)
-      (f f' : List Value) (s s' : S) (o : Outcome) (n : ℕ) (behind : frame_cells run.parts ≤ n) where
-    beyond_for : (i : Instruction) (p : Option Operation)
-        → Within run.parts.literals (counts_of run) (script_for run.parts run.place run.height i p)
-        → Exec run.parts.literals means may (script_for run.parts run.place run.height i p) f s o f' s'
-        → slice_index_or f' n Nil ≡ slice_index_or f n Nil
-    beyond_for i None w r = absurd r
-    beyond_for i (Some p) w r =
-        laws.beyond run.parts run.place run.height i p (counts_of run) f f' s s' o w r n behind
+-- one instruction stands at a place
+same_instruction : {code : List ℕ} {p : ℕ} {i j : Instruction} {o u : Operation}
+    → InstructionAt code p i o → InstructionAt code p j u → (i ≡ j) × (o ≡ u)
+same_instruction {code} {p} {i} {j} s t =
+    let e = same_read code p i j s.rest t.rest s.read t.read in
+    (e, same_Some _ _ (sym s.known ∙ ap (λ (k : Instruction). operation_of k.opcode) e ∙ t.known))
 
-    beyond_read : (x : Reading)
-        → Within run.parts.literals (counts_of run) (script_read run.parts run.place run.height x)
-        → Exec run.parts.literals means may (script_read run.parts run.place run.height x) f s o f' s'
-        → slice_index_or f' n Nil ≡ slice_index_or f n Nil
-    beyond_read (Err e) w r = absurd r
-    beyond_read (Ok x) w r = beyond_for x.0 (operation_of x.0.opcode) w r
+-- both of two tests
+both_true : (a b : Bool) → not (a && b) ≡ false → (a ≡ true) × (b ≡ true)
+both_true true true e = (refl, refl)
+both_true true false e = absurd cc
+both_true false b e = absurd cc
+
+module _ {S : Type 0} (means : S → Meaning) (may : S → Sent → Value → S → Type 0) where
+  -- what is known of a step that is not refused
+  record Unrefused (run : RunView) (f : List Value) (s : S) : Type 0 where
+    live : run.state ≡ Live
+    variables : length (means s).variables ≡ run.variable_count
+    bindings : length (means s).bindings ≡ run.binding_count
+    long : frame_cells run.parts ≤ length f
+
+  -- a step is refused, and leaves all, or is not
+  abbrev Parted : RunView → RunView → List Value → List Value → S → S → CallAnswer → Type 0
+  Parted run run' f f' s s' a =
+      ((x : Fault) × (a ≡ Err x) × (run' ≡ run) × (f' ≡ f) × (s' ≡ s)) ⊎ ((a ≡ Ok tt) × Unrefused run f s)
+
+  parted : (run run' : RunView) (f f' : List Value) (s s' : S) (a : CallAnswer)
+      → Step means may run f s a run' f' s' → Parted run run' f f' s s' a
+  parted run run' f f' s s' a st = by (first (step_tests run f (means s))) refl st
+    where
+      by : (t : Option Fault) → first (step_tests run f (means s)) ≡ t → StepUnless means may t run f s a run' f' s'
+          → ((x : Fault) × (a ≡ Err x) × (run' ≡ run) × (f' ≡ f) × (s' ≡ s)) ⊎ ((a ≡ Ok tt) × Unrefused run f s)
+      by (Some t) e p = inl (t, p.0, p.1, p.2, p.3)
+      by None e p =
+          let q = first_none (step_tests run f (means s)) e in
+          let c = both_true (eqb (length (means s).variables) run.variable_count) (eqb (length (means s).bindings) run.binding_count) q.1 in
+          inr (p.1, record {
+            live = live_of run.state q.0;
+            variables = eqb-true _ _ c.0;
+            bindings = eqb-true _ _ c.1;
+            long = ltb-false _ _ q.2.0;
+          })
 
   module _ (safe : EveryHistoryIsSafe means may) (s s' : S) (run run' : RunView) where
     placed : Reached means may s run → run.state ≡ Live → WellPlaced run
     placed x live = (safe x.0 s x.1 x.3).well_placed x.2 run x.4 live
 
-    pub totals_stay : ScriptLaws means may → (f f' : List Value) (a : CallAnswer) → Step means may run f s a run' f' s' → TotalsStay means may s run f f'
-    totals_stay laws f f' a st x n behind = by (first (step_tests run f (means s))) refl st
-      where
-        by : (t : Option Fault) → first (step_tests run f (means s)) ≡ t → StepUnless means may t run f s a run' f' s' → slice_index_or f' n Nil ≡ slice_index_or f n Nil
-        by (Some t) e p = ap (λ (g : List Value). slice_index_or g n Nil) p.2
-        by None e p =
-            beyond_read laws run f f' s s' p.0 n behind (read_at run.parts.code run.place)
-            (placed x (live_of run.state (first_none (step_tests run f (means s)) e).0)).within p.3
-
     -- what is seen of a run that a call led to
-    pub seen_right : ExtendsHistory means may s run s' (Some run') → Reached means may s run → run'.state ≡ Live → SeenRight run' (Some (record { pair = run'.place / 2; height = run'.height }))
+    pub seen_right : ExtendsHistory means may s run s' (Some run') → Reached means may s run → run'.state ≡ Live
+        → SeenRight run' (Some (record { pair = run'.place / 2; height = run'.height }))
     seen_right on x live =
         let held = get_or-set_same x.1 x.2 (Some run') None (held_length x.1 x.2 run x.4) in
         let here = (safe x.0 s' _ (on x.0 x.1 x.2 x.3 x.4)).well_placed x.2 run' held live in
@@ -90,14 +108,84 @@ module _ {S : Type 0} (means : S → Meaning) (may : S → Sent → Value → S 
         )
 
     module _ (f f' : List Value) (a : CallAnswer) (st : Step means may run f s a run' f' s') where
+      came : Reached means may s run → Unrefused run f s
+          → Progress means may run f s a run' f' s' × SameWithin means may run f s run' f' s'
+      came x u = (safe x.0 s x.1 x.3).progress x.2 run x.4 u.live f f' a run' s' u.long st
+
+      pub sheet_stays : SheetStays means may s run f f'
+      sheet_stays = record { behind = behind; below = below }
+        where
+          behind : Reached means may s run → (n : ℕ) → frame_cells run.parts ≤ n
+              → slice_index_or f' n Nil ≡ slice_index_or f n Nil
+          behind x n past = elim (parted run run' f f' s s' a st) [
+            | inl r ↦ ap (λ (g : List Value). slice_index_or g n Nil) r.3
+            | inr u ↦ (came x u.1).0.behind n past
+          ]
+
+          below : Reached means may s run → (i : Instruction) (o : Operation)
+              → InstructionAt run.parts.code run.place i o
+              → (n : ℕ) → working_base run.parts ≤ n
+              → n < working_base run.parts + (run.height - (effect_of o i).takes)
+              → slice_index_or f' n Nil ≡ slice_index_or f n Nil
+          below x i o at n low high = elim (parted run run' f f' s s' a st) [
+            | inl r ↦ ap (λ (g : List Value). slice_index_or g n Nil) r.3
+            | inr u ↦ (came x u.1).0.below at n low high
+          ]
+
+      -- a step that is answered by Ok is not refused
+      accepted : a ≡ Ok tt → Unrefused run f s
+      accepted e = elim (parted run run' f f' s s' a st) [
+        | inl r ↦ (let z = sym r.1 ∙ e in absurd cc)
+        | inr u ↦ u.1
+      ]
+
+      -- a sheet with the same counted cells agrees below the counts
+      agree : Unrefused run f s → (g : List Value) → frame_cells run.parts ≤ length g
+          → take (frame_cells run.parts) g ≡ take (frame_cells run.parts) f
+          → AgreeBelow (counts_of run) f (means s) g (means s)
+      agree u g long same = record {
+        frames = same;
+        rows = λ row i l. refl;
+        receiver = refl;
+        understands = refl;
+        long = (u.long, long);
+        counted = λ row. (counted row, counted row);
+      }
+        where
+          counted : (row : Row) → row_count (counts_of run) row ≤ length (row_of (means s) row)
+          counted Variables = omega (arith, u.variables)
+          counted Bindings = omega (arith, u.bindings)
+
+      pub regardless : Regardless means may s run f a run' f'
+      regardless x e g g' t run'' long same other =
+          let u = accepted e in
+          let w = (came x u).1 g g' s t run'' (agree u g long same) other in
+          (w.0, λ none. (w.1 none).frames)
+
+      pub measured : run'.state ≡ Live → a ≡ Ok tt → Measured means may s run (Some (run.height, run'.height))
+      measured live e x i o at =
+          let u = accepted e in
+          let w = placed x u.live in
+          let d = same_instruction w.stands at in (
+            subst (λ (u : Operation). (effect_of u i).takes ≤ run.height) d.1
+                (subst (λ (j : Instruction). (effect_of w.operation j).takes ≤ run.height) d.0 w.need),
+            ((came x u).0.led at live).1,
+          )
+
       -- a refusal is none that this caller meets
-      pub not_refused : (t : Fault) → a ≡ Err t → (r : Result (Option Stop) Fault) → Explained means may s run f r
-      not_refused t e r x live long = let ok = ((safe x.0 s x.1 x.3).progress x.2 run x.4 live f f' a run' s' long st).unrefused in absurd cc
+      pub not_refused : (t : Fault) → a ≡ Err t → (r : Result (Option Stop) Fault) → Explained means may s run f r f' s'
+      not_refused t e r x live long =
+          let ok = ((safe x.0 s x.1 x.3).progress x.2 run x.4 live f f' a run' s' long st).0.unrefused in absurd cc
 
-      made_for : Reached means may s run → run.state ≡ Live → frame_cells run.parts ≤ length f → MadeFor means may s run f (made_in run'.state)
-      made_for x live long =
-          let next = (safe x.0 s x.1 x.3).progress x.2 run x.4 live f f' a run' s' long st in
-          record { not_understood = λ n. iff_trans (made_is run'.state _) (next.not_understood n); no_block = iff_trans (made_is run'.state _) next.no_block }
-
-      pub explained : (made : Option Stop) → made ≡ made_in run'.state → Explained means may s run f (Ok made)
-      explained made e x live long = subst (λ (m : Option Stop). MadeFor means may s run f m) (sym e) (made_for x live long)
+      pub explained : (made : Option Stop) → made ≡ made_in run'.state → Explained means may s run f (Ok made) f' s'
+      explained made e x live long =
+          subst (λ (m : Option Stop). MadeFor means may s run f m f' s') (sym e) (record {
+            not_understood = λ n. iff_trans (made_is run'.state _) (next.not_understood n);
+            no_block = iff_trans (made_is run'.state _) next.no_block;
+            sent = next.sent;
+            stored = next.stored;
+            untouched = next.untouched;
+          })
+        where
+          next : Progress means may run f s a run' f' s'
+          next = ((safe x.0 s x.1 x.3).progress x.2 run x.4 live f f' a run' s' long st).0

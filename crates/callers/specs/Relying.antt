@@ -1,16 +1,21 @@
 -- What callers of a step can rely on.
-use Rattle.std.specs.Prelude.{◌≡◌, ◌≢◌, ◌↔◌, ℕ, ◌*◌, ◌≤◌, true, false, List, length, Some, None, Ok, Err, IsOkAnd, Option, Result, slice_index_or}
+use Rattle.std.specs.Prelude.{◌≡◌, ◌≢◌, ◌↔◌, ℕ, ◌+◌, ◌-◌, ◌*◌, ◌<◌, ◌≤◌, true, false, List, length, take, Some, None, Ok, Err, IsOkAnd, Option, Result, slice_index_or}
 use Rattle.values.specs.declared.faults.Fault.{Fault}
 use Rattle.values.specs.declared.kinds.Value.{Value}
 use Rattle.values.specs.declared.kinds.Value.TheVariants.{Nil}
-use Rattle.hosts.specs.Meaning.{Meaning, Sent}
+use Rattle.hosts.specs.Meaning.{Meaning, Sent, with_cell}
+use Rattle.hosts.specs.declared.rows.Row.{Row}
+use Rattle.parcels.specs.Instructions.{InstructionAt}
+use Rattle.parcels.specs.Opcodes.{effect_of, after}
+use Rattle.parcels.specs.declared.opcodes.Operation.{Operation}
+use Rattle.parcels.specs.declared.reading.Instruction.{Instruction}
 use Rattle.parcels.specs.Reading.{starts_at}
 use Rattle.soundness.specs.Paths.{Path}
-use Rattle.semantics.specs.Steps.{RunView, frame_cells}
+use Rattle.semantics.specs.Steps.{RunView, CallAnswer, Step, frame_cells, working_base}
 use Rattle.semantics.specs.declared.states.State.TheVariants.{Live}
 use Rattle.semantics.specs.declared.states.Stop.{Stop}
 use Rattle.semantics.specs.declared.states.Stop.TheVariants.{NotUnderstood, NoBlock}
-use Rattle.safety.specs.Histories.{HeldRuns, Holds, History, Sends, MeetsNoBlock}
+use Rattle.safety.specs.Histories.{HeldRuns, Holds, History, top_of, with_answer, Sends, Stores, MeetsNoBlock}
 use Rattle.callers.specs.declared.relying.Seen.{Seen}
 
 -- the height of place 0 by a verdict: 0 where the parcel is accepted
@@ -32,22 +37,59 @@ module _ {S : Type 0} (means : S → Meaning) (may : S → Sent → Value → S 
   abbrev pub Reached : S → RunView → Type 0
   Reached s run = (s₀ : S) × (rs : HeldRuns) × (k : ℕ) × History means may s₀ s rs × Holds rs k run
 
-  -- the cells behind those that the run counts are as before
-  abbrev pub TotalsStay : S → RunView → List Value → List Value → Type 0
-  TotalsStay s run f f' =
-      Reached s run → (n : ℕ) → frame_cells run.parts ≤ n
-      → slice_index_or f' n Nil ≡ slice_index_or f n Nil
+  -- a live run's step leaves the cells behind those that the run counts, and the working cells below
+  -- those that its instruction takes; a refused step leaves all
+  pub record SheetStays (s : S) (run : RunView) (f f' : List Value) : Type 0 where
+    pub behind : Reached s run → (n : ℕ) → frame_cells run.parts ≤ n
+        → slice_index_or f' n Nil ≡ slice_index_or f n Nil
+    pub below : Reached s run → (i : Instruction) (o : Operation)
+        → InstructionAt run.parts.code run.place i o
+        → (n : ℕ) → working_base run.parts ≤ n
+        → n < working_base run.parts + (run.height - (effect_of o i).takes)
+        → slice_index_or f' n Nil ≡ slice_index_or f n Nil
 
-  -- a stop is made for its reason alone, and whenever there is the reason
-  pub record MadeFor (s : S) (run : RunView) (f : List Value) (made : Option Stop) : Type 0 where
+  -- whatever stands behind the counted cells plays no part: a step of the same run on the same host
+  -- with another sheet that has the same counted cells comes to the same run, and writes the same
+  -- counted cells unless a message is sent
+  abbrev pub Regardless : S → RunView → List Value → CallAnswer → RunView → List Value → Type 0
+  Regardless s run f a run' f' =
+      Reached s run → a ≡ Ok tt → (g g' : List Value) (t : S) (run'' : RunView)
+      → frame_cells run.parts ≤ length g
+      → take (frame_cells run.parts) g ≡ take (frame_cells run.parts) f
+      → Step means may run g s (Ok tt) run'' g' t
+      → (run'' ≡ run')
+      × (((m : Sent) (c : Option ℕ) → Sends run f m c → ⊥)
+      → take (frame_cells run.parts) g' ≡ take (frame_cells run.parts) f')
+
+  -- the heights before and after a step that leaves the run live: what the instruction takes is
+  -- there, and the height after is the table's
+  abbrev pub Measured : S → RunView → Option (ℕ × ℕ) → Type 0
+  Measured s run None = Unit {0}
+  Measured s run (Some h) =
+      Reached s run → (i : Instruction) (o : Operation)
+      → InstructionAt run.parts.code run.place i o
+      → ((effect_of o i).takes ≤ h.0) × (h.1 ≡ after (effect_of o i) h.0)
+
+  -- a stop is made for its reason alone, and whenever there is the reason; and what was done to the
+  -- host: it took a message and its answer is in the frame, or a cell was set, or nothing was done
+  pub record MadeFor (s : S) (run : RunView) (f : List Value) (made : Option Stop)
+      (f' : List Value) (s' : S) : Type 0 where
     pub not_understood : (n : ℕ)
         → (made ≡ Some (NotUnderstood n))
-        ↔ ((m : Sent) × Sends run f m × ((means s).understands m ≡ false) × (m.selector ≡ n))
+        ↔ ((m : Sent) × (c : Option ℕ) × Sends run f m c
+        × ((means s).understands m ≡ false) × (m.selector ≡ n))
     pub no_block : (made ≡ Some NoBlock) ↔ MeetsNoBlock run f
+    pub sent : {m : Sent} {c : Option ℕ} → Sends run f m c → (means s).understands m ≡ true
+        → (v : Value) × may s m v s' × (f' ≡ with_answer c v f)
+    pub stored : {row : Row} {k : ℕ} → Stores run row k
+        → means s' ≡ with_cell (means s) row k (top_of run f)
+    pub untouched : ((m : Sent) (c : Option ℕ) → Sends run f m c → ⊥)
+        → ((row : Row) (k : ℕ) → Stores run row k → ⊥) → s' ≡ s
 
   -- a live run with a frame that is long enough is not refused, and the stop that is answered, if
   -- any, is the one that there is reason for
-  abbrev pub Explained : S → RunView → List Value → Result (Option Stop) Fault → Type 0
-  Explained s run f r =
+  abbrev pub Explained : S → RunView → List Value → Result (Option Stop) Fault
+      → List Value → S → Type 0
+  Explained s run f r f' s' =
       Reached s run → run.state ≡ Live → frame_cells run.parts ≤ length f
-      → IsOkAnd r (MadeFor s run f)
+      → IsOkAnd r (λ made. MadeFor s run f made f' s')

@@ -6,4 +6,4 @@ mod judging;
 mod relying;
 
 pub use judging::{first_height, refusal_of};
-pub use relying::{Seen, step_and_look, step_beside_totals, step_explained};
+pub use relying::{Seen, step_and_look, step_beside_totals, step_explained, step_measured};

@@ -1,8 +1,8 @@
 // What a caller can rely on, by the contract of a step alone.
-ghost use Rattle.std.specs.Prelude.{◌≡◌, length};
+ghost use Rattle.std.specs.Prelude.{◌≡◌};
 ghost use Rattle.semantics.specs.Steps.{CallAnswer, Step};
 ghost use Rattle.engine.specs.View.{view};
-ghost use Rattle.callers.specs.Relying.{Reached, TotalsStay, Explained, SeenRight};
+ghost use Rattle.callers.specs.Relying.{Reached, SheetStays, Regardless, Measured, Explained, SeenRight};
 
 use engine::Run;
 use hosts::Host;
@@ -25,7 +25,9 @@ pub fn step_beside_totals<H: Host>(
 ) -> Result<(), Fault>
     ensures steps { Step H.means H.may (view run.old) sheet.old host.old result (view run.new)
         sheet.new host.new }
-    ensures totals { TotalsStay H.means H.may host.old (view run.old) sheet.old sheet.new }
+    ensures stays { SheetStays H.means H.may host.old (view run.old) sheet.old sheet.new }
+    ensures regardless { Regardless H.means H.may host.old (view run.old) sheet.old result
+        (view run.new) sheet.new }
 {
     run.step(host, sheet)
 }
@@ -46,13 +48,34 @@ pub fn step_and_look<H: Host>(run: &mut Run, host: &mut H, frame: &mut [Value]) 
     })
 }
 
+/// Steps a run and answers its heights before and after, if it was not refused and is live then.
+pub fn step_measured<H: Host>(
+    run: &mut Run,
+    host: &mut H,
+    frame: &mut [Value],
+) -> Option<(usize, usize)>
+    ensures stepped { (a : CallAnswer) × Step H.means H.may (view run.old) frame.old host.old a
+        (view run.new) frame.new host.new }
+    ensures measured { Measured H.means H.may host.old (view run.old) result }
+{
+    let before = run.height();
+    run.step(host, frame).ok()?;
+    let State::Live = run.state() else {
+        return None;
+    };
+    Some((before, run.height()))
+}
+
 /// Steps a run and says which stop it made, if it made one. It is refused as a step is.
 pub fn step_explained<H: Host>(
     run: &mut Run,
     host: &mut H,
     frame: &mut [Value],
 ) -> Result<Option<Stop>, Fault>
-    ensures { Explained H.means H.may host.old (view run.old) frame.old result }
+    ensures stepped { (a : CallAnswer) × Step H.means H.may (view run.old) frame.old host.old a
+        (view run.new) frame.new host.new }
+    ensures explained { Explained H.means H.may host.old (view run.old) frame.old result frame.new
+        host.new }
 {
     run.step(host, frame)?;
     match run.state() {

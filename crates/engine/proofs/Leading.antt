@@ -5,10 +5,11 @@ use Rattle.hosts.specs.Meaning.{Meaning, Sent}
 use Rattle.parcels.specs.Parts.{Parts}
 use Rattle.parcels.specs.declared.opcodes.Operation.{Operation}
 use Rattle.semantics.specs.Execution.{Exec}
-use Rattle.semantics.specs.Scripts.{Script, script_of}
+use Rattle.semantics.specs.Scripts.{Script, script_of, continues}
 use Rattle.semantics.specs.Steps.{RunView, code_context_of, script_at}
 use Rattle.semantics.specs.declared.states.State.TheVariants.{Live}
-use Rattle.semantics.proofs.Operations.{script_laws}
+use Rattle.semantics.proofs.Operations.{Lands, leads_to}
+use Rattle.semantics.proofs.Executing.{everywhere_leaf}
 use Rattle.safety.specs.Ready.{Ready}
 use Rattle.engine.proofs.Fetching.{need, onward}
 use Rattle.engine.specs.Decoding.{outcome_of, script_in, HasDecoded, NextDecoded, ContinuesReady, PerformedNext}
@@ -34,7 +35,9 @@ module _ {S : Type 0} (means : S → Meaning) (may : S → Sent → Value → S 
       let t = ready r.0 in
       let x = subst (λ (c : Script). Exec d.parcel.literals.now means may c f s (outcome_of w) f' s') (script_is run d n.1) r.1 in
       let y = subst (λ (q : Parts). Exec q.literals means may (script_at run.parts run.place run.height d.instruction d.operation) f s (outcome_of w) f' s') n.1.parcel x in
-      let l = (script_laws means may).leads run.parts run.place run.height d.instruction d.operation f f' s s' p h
-      (need t n.1.stands)
-      (subst (λ z. Exec run.parts.literals means may (script_at run.parts run.place run.height d.instruction d.operation) f s z f' s') e y) in
+      let l = everywhere_leaf run.parts.literals means may (λ _. Unit {0})
+          (Lands run.parts run.place run.height d.instruction d.operation)
+          (script_at run.parts run.place run.height d.instruction d.operation) f s (continues p h) f' s'
+          (leads_to run.parts run.place run.height d.instruction d.operation (need t n.1.stands))
+          (subst (λ z. Exec run.parts.literals means may (script_at run.parts run.place run.height d.instruction d.operation) f s z f' s') e y) in
       onward t n.1.stands p h l.0 l.1

@@ -3,7 +3,6 @@ ghost use Rattle.std.specs.Prelude.{◌≡◌, ℕ, ◌+◌, ◌*◌, ◌≤◌,
 ghost use Rattle.values.specs.Order.{first, unless};
 ghost use Rattle.parcels.specs.Parts.{parts};
 ghost use Rattle.semantics.specs.declared.states.State.TheVariants.{Live};
-ghost use Rattle.semantics.specs.Laws.{ScriptLaws};
 ghost use Rattle.semantics.specs.Steps.{is_live, moved, Step};
 ghost use Rattle.safety.specs.Histories.{ExtendsHistory, EveryHistoryIsSafe};
 ghost use Rattle.engine.specs.Decoding.{outcome_of, NextDecoded, HasDecoded, ContinuesReady, Long, PerformedNext, count_tests};
@@ -171,7 +170,6 @@ impl<'a> Run<'a> {
         ensures extends { ExtendsHistory H.means H.may host.old (view self.old) host.new
             (Some (view self.new)) }
         ensures safe { EveryHistoryIsSafe H.means H.may }
-        ensures laws { ScriptLaws H.means H.may }
     {
         self.step_once(host, frame)
     }

@@ -1,4 +1,3 @@
-use Rattle.semantics.proofs.Operations.{script_laws}
 use Rattle.safety.specs.Histories.{called, steps}
 use Rattle.safety.proofs.Safety.{every_history_is_safe}
 use Rattle.engine.specs.View.{view}
@@ -11,6 +10,3 @@ returns-clause-extends g c =
 
 pub returns-clause-safe : goal.returns-clause-safe
 returns-clause-safe g c = every_history_is_safe g.H.Host.means g.H.Host.may g.met.H.Host.kept
-
-pub returns-clause-laws : goal.returns-clause-laws
-returns-clause-laws g c = script_laws g.H.Host.means g.H.Host.may
