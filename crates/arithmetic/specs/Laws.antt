@@ -51,6 +51,11 @@ pub record AnswersInRange (m : Sent) (z : ℤ) : Type 0 where
   pub inside : InRange z → (s : SmallInteger) × (s.value ≡ z) × (own_answer m ≡ Some (Integer s))
   pub outside : (InRange z → ⊥) → own_answer m ≡ None
 
+-- by that the answer is settled: whatever messages have the same result are answered alike
+abbrev pub RangeSettlesAnswer : Type 0
+RangeSettlesAnswer =
+    (m n : Sent) (z : ℤ) → AnswersInRange m z → AnswersInRange n z → own_answer m ≡ own_answer n
+
 -- sum, difference, product, remainder and quotient
 pub record Computed (x y : SmallInteger) : Type 0 where
   pub sum : AnswersInRange (integer_message 0 x y) (x.value +ℤ y.value)

@@ -3,7 +3,7 @@ ghost use Rattle.std.specs.Prelude.{◌≡◌};
 ghost use Rattle.hosts.specs.Meaning.{row_of, with_cell, place_of, Answered};
 ghost use Rattle.hosts.specs.Sending.{sent};
 ghost use Rattle.arithmetic.specs.Layer.{layered, MayLayered, ByItself, PassedOn};
-ghost use Rattle.arithmetic.specs.Laws.{Divides, DividesOnlySo, Computes, AlwaysLeft, NeverByZero, Compares, OnlyThese, WorkedAnswers};
+ghost use Rattle.arithmetic.specs.Laws.{Divides, DividesOnlySo, Computes, RangeSettlesAnswer, AlwaysLeft, NeverByZero, Compares, OnlyThese, WorkedAnswers};
 ghost use Rattle.arithmetic.specs.Layers.{kept_over, few_over};
 ghost use Rattle.std.proofs.Common.{rules};
 
@@ -25,6 +25,7 @@ impl<H> Arithmetic<H> {
         ensures divides { Divides }
         ensures only_so { DividesOnlySo }
         ensures computes { Computes }
+        ensures settles { RangeSettlesAnswer }
         ensures left { AlwaysLeft }
         ensures by_zero { NeverByZero }
         ensures compares { Compares }

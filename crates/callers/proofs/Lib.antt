@@ -1,2 +1,3 @@
 pub mod Leaning
 pub mod Starting
+pub mod Staying

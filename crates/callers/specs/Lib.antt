@@ -1,1 +1,2 @@
 pub mod Relying
+pub mod Files

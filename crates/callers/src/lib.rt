@@ -2,8 +2,10 @@
 // nothing else.
 #![tactic(auto)]
 
+mod files;
 mod judging;
 mod relying;
 
+pub use files::{short_count, stepped_file};
 pub use judging::{first_height, refusal_of};
 pub use relying::{Seen, step_and_look, step_beside_totals, step_explained, step_measured};

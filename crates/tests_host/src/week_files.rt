@@ -229,6 +229,41 @@ fn not_understood(rt: HostRuntime) -> Result<(), Fail> {
     Ok(())
 }
 
+// Why a file with these bytes is refused, asked of the host over it.
+fn refusal_over(
+    heap: Global,
+    header: [u8; 8],
+    cells: &[Entry],
+) -> Result<Option<(u8, usize)>, AllocError> {
+    let host = WeekFile::open(week(heap, header, cells)?);
+    Ok(missing(host.refusal()))
+}
+
+// The fault of opening is answered as `check_file` answers it, also after a write.
+#[test]
+fn refusals_are_kept(rt: HostRuntime) -> Result<(), Fail> {
+    let mut host = small_file(rt.alloc())?;
+    assert_eq!(rt; missing(host.refusal()), None);
+    assert_eq!(rt; missing(host.set_value(Row::Bindings, 0, Value::Nil)), None);
+    assert_eq!(rt; missing(host.refusal()), None);
+    let mut empty = WeekFile::open(Vec::new(rt.alloc()));
+    assert_eq!(rt; missing(empty.refusal()), Some((30, 0)));
+    assert_eq!(rt;
+        missing(empty.set_value(Row::Bindings, 0, Value::Nil)),
+        Some((29, 0))
+    );
+    assert_eq!(rt; missing(empty.refusal()), Some((30, 0)));
+    let variables = refusal_over(rt.alloc(), [4, 1, 4, 1, 0, 0, 0, 0], &[])?;
+    let bindings = refusal_over(rt.alloc(), [4, 0, 4, 1, 0, 0, 0, 0], &[])?;
+    let length = refusal_over(rt.alloc(), [0, 1, 0, 1, 0, 0, 0, 42], &[NIL])?;
+    let cell = refusal_over(rt.alloc(), [0, 1, 0, 1, 0, 0, 0, 42], &[NIL, [9; 6]])?;
+    assert_eq!(rt; variables, Some((31, 0)));
+    assert_eq!(rt; bindings, Some((31, 2)));
+    assert_eq!(rt; length, Some((32, 0)));
+    assert_eq!(rt; cell, Some((34, 14)));
+    Ok(())
+}
+
 #[test]
 fn over_a_refused_file(rt: HostRuntime) -> Result<(), Fail> {
     let mut host = WeekFile::open(week(rt.alloc(), [0, 1, 0, 1, 0, 0, 0, 42], &[NIL])?);

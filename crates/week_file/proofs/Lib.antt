@@ -3,3 +3,4 @@ pub mod Searching
 pub mod Writes
 pub mod Asking
 pub mod ReadBack
+pub mod Settling

@@ -1,10 +1,12 @@
 -- What a write of one cell leaves.
-use Rattle.std.proofs.Common.{◌≡◌, ℕ, zero, suc, ◌+◌, ◌-◌, ◌*◌, ◌/◌, ◌%◌, ◌^◌, ◌<◌, ◌≤◌, Bool, true, false, ◌⊎◌, List, ◌∷◌, ◌++◌, length, take, drop, Some, None, unwrap_or, sym, refl, ap, ◌∙◌, subst, inl, inr, le_of_suc-le-suc, not-suc-le-zero, arith, length-append, length-drop}
+use Rattle.std.proofs.Common.{◌≡◌, ℕ, zero, suc, ◌+◌, ◌-◌, ◌*◌, ◌/◌, ◌%◌, ◌^◌, ◌<◌, ◌≤◌, Bool, true, false, ◌⊎◌, List, ◌∷◌, ◌++◌, length, take, drop, not, is_some, Some, None, Option, unwrap_or, sym, refl, ap, ◌∙◌, subst, inl, inr, le_of_suc-le-suc, not-suc-le-zero, arith, length-append, length-drop}
 use Rattle.std.specs.Prelude.{if◌then◌else◌}
 use Rattle.std.proofs.lemmas.List.{length-take-le, get_or_append_left, get_or-append_right, get_or-take, get_or-drop}
 use Rattle.std.proofs.lemmas.Bool.{cases_order}
 use Rattle.values.specs.Bytes.{at, be16, be32}
 use Rattle.values.specs.Kinds.{kind_number, number_field}
+use Rattle.values.specs.Order.{unless}
+use Rattle.values.specs.declared.faults.Fault.{Fault}
 use Rattle.values.specs.declared.kinds.Value.{Value}
 use Rattle.values.specs.declared.kinds.Value.TheVariants.{Nil, Object}
 use Rattle.values.proofs.Parts.{read_back}
@@ -15,7 +17,7 @@ use Rattle.hosts.specs.Meaning.{put, with_cell}
 use Rattle.hosts.proofs.Cells.{put_past}
 use Rattle.week_file.specs.Cells.{raw_at, cell_of, five_bytes, written}
 use Rattle.week_file.specs.Headers.{file_header, header_count, header_start, cell_start, cell_count}
-use Rattle.week_file.specs.Files.{accepted, good_header, row_start, row_count, cells_from, row_cells, week_meaning, CellAt}
+use Rattle.week_file.specs.Files.{why_refused, accepted, judged_header, row_start, row_count, cells_from, row_cells, week_meaning, CellAt}
 use Rattle.week_file.specs.Laws.{Sound, IsWeekFile}
 use Rattle.week_file.specs.declared.headers.FileHeader.{FileHeader}
 use Rattle.week_file.proofs.Pieces.{raw, same_raw}
@@ -159,6 +161,13 @@ module _ (b : List ℕ) (o : ℕ) (v : Value) (h : o + 6 ≤ length b) where
 pub fits : (b : List ℕ) (o : ℕ) → CellAt b o → o + 6 ≤ length b
 fits b o x = omega (arith, (kept b x.accepts).ends)
 
+none_by : (o : Option Fault) → not (is_some o) ≡ true → o ≡ None
+none_by None e = refl
+none_by (Some f) e = absurd cc
+
+none_refused : (b : List ℕ) → accepted b ≡ true → why_refused b ≡ None
+none_refused b e = none_by (why_refused b) e
+
 -- what a write leaves as it was
 module _ (b : List ℕ) (o : ℕ) (v : Value) (x : CellAt b o) where
   header_stays : file_header (written b o v) ≡ file_header b
@@ -169,12 +178,18 @@ module _ (b : List ℕ) (o : ℕ) (v : Value) (x : CellAt b o) where
       accept (written b o v) (still b o v (fits b o x) x.number x.begins (kept b x.accepts))
       ∙ sym x.accepts
 
-  pub header_written : good_header (written b o v) ≡ good_header b
-  header_written =
-      ap (λ t. if t then Some (file_header (written b o v)) else None) accepted_written
-      ∙ ap (λ h. if accepted b then Some h else None) header_stays
+  -- and it is refused no more than before
+  pub refusal_written : why_refused (written b o v) ≡ why_refused b
+  refusal_written =
+      none_refused (written b o v) (accepted_written ∙ x.accepts)
+      ∙ sym (none_refused b x.accepts)
 
-  receiver_same : (week_meaning (written b o v)).receiver ≡ (week_meaning b).receiver
+  pub header_written : judged_header (written b o v) ≡ judged_header b
+  header_written =
+      ap (λ f. unless f (file_header (written b o v))) refusal_written
+      ∙ ap (unless (why_refused b)) header_stays
+
+  pub receiver_same : (week_meaning (written b o v)).receiver ≡ (week_meaning b).receiver
   receiver_same =
       ap (λ t. if t then Object (file_header (written b o v)).receiver else Nil) accepted_written
       ∙ ap (λ (h : FileHeader). if accepted b then Object h.receiver else Nil) header_stays

@@ -1,5 +1,5 @@
 -- One cell of a week file, in its six bytes.
-use Rattle.std.specs.Prelude.{ℕ, ◌+◌, ◌/◌, ◌%◌, ◌^◌, Bool, true, false, not, List, [], ◌∷◌, ◌++◌, take, drop, is_some, Some, None, Option, ◌==◌, if◌then◌else◌}
+use Rattle.std.specs.Prelude.{ℕ, ◌+◌, ◌/◌, ◌%◌, ◌^◌, ◌<◌, Bool, true, false, not, List, [], ◌∷◌, ◌++◌, All, take, drop, is_some, Some, None, Option, ◌==◌, if◌then◌else◌}
 use Rattle.std.specs.Option.{unwrap_or}
 use Rattle.values.specs.Bytes.{at, be32}
 use Rattle.values.specs.Kinds.{kind_number, number_field, value_of}
@@ -8,6 +8,10 @@ use Rattle.values.specs.declared.kinds.Value.TheVariants.{Nil}
 use Rattle.hosts.specs.Meaning.{Cell}
 use Rattle.week_file.specs.declared.cells.FileCell.{FileCell}
 use Rattle.week_file.specs.declared.cells.TheConstants.{CELL_BYTES}
+
+-- numbers that are bytes
+abbrev pub AreBytes : List ℕ → Type 0
+AreBytes b = All (λ x. x < 2 ^ 8) b
 
 -- what the six bytes of a cell say, right or wrong
 pub record RawCell : Type 0 where

@@ -1,7 +1,7 @@
 -- What a whole week file means.
-use Rattle.std.specs.Prelude.{◌≡◌, ℕ, zero, suc, ◌+◌, ◌*◌, ◌<◌, Bool, true, not, List, [], ◌∷◌, length, is_some, Some, None, Ok, Err, Option, Result, ◌==◌, nat_lt, if◌then◌else◌}
+use Rattle.std.specs.Prelude.{◌≡◌, ℕ, zero, suc, ◌+◌, ◌*◌, ◌<◌, Bool, true, not, List, [], ◌∷◌, length, is_some, Some, Ok, Err, Option, Result, ◌==◌, nat_lt, if◌then◌else◌}
 use Rattle.values.specs.Faults.{fault}
-use Rattle.values.specs.Order.{Test, test, first}
+use Rattle.values.specs.Order.{Test, test, first, unless}
 use Rattle.values.specs.declared.faults.Fault.{Fault}
 use Rattle.values.specs.declared.faults.Rule.TheVariants.{CellMissing, FileShort, CellsTooMany, FileLength, CellWrong}
 use Rattle.values.specs.declared.kinds.Value.{Value}
@@ -40,9 +40,9 @@ why_refused b = first (file_tests b)
 abbrev pub accepted : List ℕ → Bool
 accepted b = not (is_some (why_refused b))
 
--- the header of a file that is accepted; a refused file has none
-abbrev pub good_header : List ℕ → Option FileHeader
-good_header b = if accepted b then Some (file_header b) else None
+-- the header of a file that is accepted, or why it is refused
+abbrev pub judged_header : List ℕ → Result FileHeader Fault
+judged_header b = unless (why_refused b) (file_header b)
 
 -- where a row begins
 abbrev pub row_start : List ℕ → Row → ℕ

@@ -1,7 +1,7 @@
 // One cell of a week file: a mark byte, a kind byte and a number field of four bytes, the most
 // significant one first.
 ghost use Rattle.std.specs.Prelude.{◌≡◌, ◌+◌, ◌≤◌, length};
-ghost use Rattle.week_file.specs.Cells.{raw_at, trusted_by, stored, breaks_rules, written};
+ghost use Rattle.week_file.specs.Cells.{AreBytes, raw_at, trusted_by, stored, breaks_rules, written};
 
 use values::Value;
 
@@ -54,7 +54,8 @@ pub(crate) fn breaks_rules(cell: &[u8; CELL_BYTES]) -> bool
 /// Writes v into the cell that begins at `place` of a file, and leaves its mark.
 pub(crate) fn write_value(bytes: &mut [u8], place: usize, v: Value)
     requires { place + CELL_BYTES ≤ length bytes.old }
-    ensures { bytes.new ≡ written bytes.old place v }
+    ensures written { bytes.new ≡ written bytes.old place v }
+    ensures fit { AreBytes bytes.new }
 {
     let [a, b, c, d] = v.number().to_be_bytes();
     bytes[place + 1..place + CELL_BYTES].copy_from_slice(&[v.kind(), a, b, c, d]);

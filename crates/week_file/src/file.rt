@@ -3,10 +3,11 @@ ghost use Rattle.std.specs.Prelude.{◌≡◌, length};
 ghost use Rattle.std.proofs.Common.{ap, arith};
 ghost use Rattle.hosts.specs.Meaning.{row_of, with_cell, place_of, Answered};
 ghost use Rattle.hosts.specs.Sending.{sent};
-ghost use Rattle.week_file.specs.Cells.{written};
-ghost use Rattle.week_file.specs.Files.{good_header, week_meaning, CellAt, Replied};
+ghost use Rattle.week_file.specs.Cells.{AreBytes, written};
+ghost use Rattle.values.specs.Order.{unless};
+ghost use Rattle.week_file.specs.Files.{why_refused, judged_header, week_meaning, CellAt, Replied};
 ghost use Rattle.week_file.specs.Rows.{place_at, filed_in, cell_written};
-ghost use Rattle.week_file.specs.Laws.{AcceptsExactly, WritesReadBack};
+ghost use Rattle.week_file.specs.Laws.{AcceptsExactly, WritesReadBack, OneReadsBack, MeaningSettlesBytes, RefusalStays};
 ghost use Rattle.hosts.proofs.Cells.{kept_same};
 ghost use Rattle.week_file.specs.Counts.{few_rows};
 
@@ -22,21 +23,34 @@ use values::{Fault, Rule, Value};
 #[derive(Drop)]
 pub struct WeekFile {
     bytes: Vec<u8>,
-    header: Option<FileHeader>,
-    ghost known: { header ≡ good_header bytes.items },
+    header: Result<FileHeader, Fault>,
+    ghost fit: { AreBytes bytes.items },
+    ghost known: { header ≡ judged_header bytes.items },
 }
 
 impl WeekFile {
     /// A host over these bytes, whatever they are. Its receiver is the object that the header
     /// names, and its cells are those of the file. Over bytes that `check_file` refuses, its
-    /// receiver is nil and it has no cells; `check_file` says why.
+    /// receiver is nil and it has no cells; `refusal` says why.
     pub fn open(bytes: Vec<u8>) -> WeekFile
         ensures holds { result.bytes ≡ bytes }
         ensures accepts { AcceptsExactly }
         ensures reads_back { WritesReadBack }
+        ensures one { OneReadsBack }
+        ensures settles { MeaningSettlesBytes }
     {
-        let header = checked_header(&bytes).ok();
+        let header = checked_header(&bytes);
         WeekFile { bytes, header }
+    }
+
+    /// Why the bytes are no week file, if they are none: the fault that `check_file` answers for
+    /// them, kept from opening. Writes and messages leave this answer: those to an accepted file
+    /// keep it accepted, and a refused file has no cells to write to.
+    pub fn refusal(&self) -> Result<(), Fault>
+        ensures why { result ≡ unless (why_refused self.now.bytes.items) tt }
+        ensures stays { RefusalStays }
+    {
+        self.header.and(Ok(()))
     }
 
     /// The bytes, with all that was written.
@@ -50,7 +64,10 @@ impl WeekFile {
     fn cell_place(&self, row: Row, i: usize) -> Result<usize, Fault>
         ensures { result ≡ place_at self.now.bytes.items row i }
     {
-        self.header.ok_or(Rule::CellMissing.at(i))?.place(row, i)
+        let Ok(header) = self.header else {
+            return Err(Rule::CellMissing.at(i));
+        };
+        header.place(row, i)
     }
 
     // Cell i of a row.

@@ -2,8 +2,7 @@
 ghost use Rattle.std.specs.Prelude.{◌≡◌, ◌-◌, ◌/◌, ◌≤◌, length, position};
 ghost use Rattle.values.specs.Order.{first, unless};
 ghost use Rattle.week_file.specs.Cells.{breaks_rules};
-ghost use Rattle.week_file.specs.Files.{cell_tests, why_refused};
-ghost use Rattle.week_file.specs.Headers.{file_header};
+ghost use Rattle.week_file.specs.Files.{cell_tests, why_refused, judged_header};
 
 use crate::cells::{CELL_BYTES, breaks_rules};
 use crate::headers::{FileHeader, HEADER_BYTES};
@@ -32,7 +31,7 @@ fn check_cells(bytes: &[u8]) -> Result<(), Fault>
 
 /// The header of bytes that break no rule; otherwise the first rule that they break.
 pub(crate) fn checked_header(bytes: &[u8]) -> Result<FileHeader, Fault>
-    ensures { result ≡ unless (why_refused bytes.now) (file_header bytes.now) }
+    ensures { result ≡ judged_header bytes.now }
 {
     let header = FileHeader::read(bytes).ok_or(Rule::FileShort.at(0))?;
     let variables = header.count(Row::Variables);

@@ -2,7 +2,7 @@ use Rattle.std.proofs.Common.{refl}
 use Rattle.arithmetic.proofs.Comparisons.{compares}
 use Rattle.arithmetic.proofs.Divisions.{divides, only_so}
 use Rattle.arithmetic.proofs.Others.{only_these}
-use Rattle.arithmetic.proofs.Results.{computes, always_left, never_by_zero}
+use Rattle.arithmetic.proofs.Results.{computes, range_settles_answer, always_left, never_by_zero}
 use Rattle.arithmetic.proofs.layer.Arithmetic.new.Goals as goal
 
 pub returns : goal.returns
@@ -11,6 +11,7 @@ returns g c = record {
   divides = divides;
   only_so = only_so;
   computes = computes;
+  settles = range_settles_answer;
   left = always_left;
   by_zero = never_by_zero;
   compares = compares;
