@@ -1,2 +1,3 @@
+pub mod JudgingVerdicts
 pub mod Leaning
 pub mod Starting

@@ -1,5 +1,5 @@
 -- What callers of a step can rely on.
-use Rattle.std.specs.Prelude.{◌≡◌, ◌≢◌, ◌↔◌, ℕ, ◌*◌, ◌≤◌, true, false, List, length, Some, None, Ok, Err, IsOkAnd, Option, Result, slice_index_or}
+use Rattle.std.specs.Prelude.{◌≡◌, ◌≢◌, ◌↔◌, ℕ, ◌*◌, ◌≤◌, true, false, List, length, Some, None, IsOkAnd, Option, Result, slice_index_or}
 use Rattle.values.specs.declared.faults.Fault.{Fault}
 use Rattle.values.specs.declared.kinds.Value.{Value}
 use Rattle.values.specs.declared.kinds.Value.TheVariants.{Nil}
@@ -12,11 +12,6 @@ use Rattle.semantics.specs.declared.states.Stop.{Stop}
 use Rattle.semantics.specs.declared.states.Stop.TheVariants.{NotUnderstood, NoBlock}
 use Rattle.safety.specs.Histories.{HeldRuns, Holds, History, Sends, MeetsNoBlock}
 use Rattle.callers.specs.declared.relying.Seen.{Seen}
-
--- the height of place 0 by a verdict: 0 where the parcel is accepted
-abbrev pub height_of_start : Result ℕ Fault → Option ℕ
-height_of_start (Ok top) = Some 0
-height_of_start (Err f) = None
 
 -- what a caller sees of a live run is the only height of the paths to its place, where an
 -- instruction starts; it sees nothing of another
