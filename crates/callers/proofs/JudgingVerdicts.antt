@@ -28,11 +28,11 @@ use Rattle.stages.specs.Encoding.{Context, site_tests}
 use Rattle.stages.specs.Examination.{height_at}
 use Rattle.stages.specs.Sweep.{site, length_tests}
 use Rattle.stages.specs.declared.encoding.Site.{Site}
-use Rattle.soundness.specs.Paths.{Path, ViolatesHeights, low, over, leaves, differ}
+use Rattle.soundness.specs.Paths.{Path, start, extend, ViolatesHeights, low, over, leaves, differ}
 use Rattle.soundness.specs.Rules.{First, here, later, ValidHeader, ValidFlags, ValidLiterals, FirstViolation, unread, breaks}
 use Rattle.soundness.specs.Verdicts.{asked_parcel, asked_code, ListsSuffice, BeforeLists, FirstFault, at_header, at_flags, at_literal, at_lists, at_length, at_instruction, on_path, HeightsOfPaths, OnlyHeights, VerdictMeans}
 use Rattle.soundness.proofs.Transfers.{start_even, start_below, landing_among}
-use Rattle.callers.specs.Judging.{HeightReached, SameHeights, before_lists, KeptBefore, ToldOfPaths}
+use Rattle.callers.specs.Judging.{HeightReached, Comes, SameHeights, before_lists, KeptBefore, ToldOfPaths}
 
 -- every test finds a rule of the stage
 abbrev AllOf : Stage → List Test → Type 0
@@ -188,6 +188,22 @@ code_read b (Ok x) p e a =
     ap (λ (y : Parts). y.code) (parcel_read b (parts p) (sym a ∙ ap (λ (y : Parcel). Ok (parts y)) same))
 code_read b (Err f) p e a = absurd cc
 
+-- a path begins, or was at another place before
+comes_by : {code : List ℕ} {p h : ℕ} → Path code p h → Comes code p h
+comes_by start = inl (refl, refl)
+comes_by (extend {p} {h} {s} {i} {o} path t need a) =
+    inr (record {
+      place = p;
+      height = h;
+      instruction = i;
+      operation = o;
+      path = path;
+      stands = t;
+      met = need;
+      left = omega (arith, need);
+      on = a;
+    })
+
 module _ (q : Question) (c : Checked) (means : VerdictMeans q c) where
   pub refusal_told : (r : Option Fault) → r ≡ result_err c.verdict
       → IfSome r (λ f. ToldOfPaths (asked_parcel q).layout (asked_code q) f.rule f.place)
@@ -269,6 +285,11 @@ module _ (q : Question) (c : Checked) (means : VerdictMeans q c) where
         → IfSome r (λ h. starts_at (asked_code q) p ≡ true)
     starts_there None x = tt
     starts_there (Some h) x = (means.heights top e).starts p h ((x h).0 refl).2
+
+  pub comes_there : (p : ℕ) (r : Option ℕ) → HeightReached q p r
+      → IfSome r (Comes (asked_code q) p)
+  comes_there p None x = tt
+  comes_there p (Some h) x = comes_by ((x h).0 refl).2
 
 -- two lists that are the paths' have the same heights, and one greatest
 module _ (code hs gs : List ℕ) (top other : ℕ)

@@ -5,7 +5,7 @@ use Rattle.values.specs.declared.faults.Rule.{Rule}
 use Rattle.values.specs.declared.faults.Rule.TheVariants.{HeightLow, HeightOver, FallsOffEnd, HeightsDiffer}
 use Rattle.values.specs.declared.faults.Stage.{Stage}
 use Rattle.values.specs.declared.faults.Stage.TheVariants.{Header, Flags, Literals, Lists, Encoding, Heights}
-use Rattle.parcels.specs.Instructions.{InstructionAt}
+use Rattle.parcels.specs.Instructions.{InstructionAt, Among, successors}
 use Rattle.parcels.specs.Opcodes.{effect_of, flow_of}
 use Rattle.parcels.specs.Reading.{following_place}
 use Rattle.parcels.specs.declared.layout.Layout.{Layout}
@@ -28,6 +28,24 @@ height_of_start (Err f) = None
 abbrev pub HeightReached : Question → ℕ → Option ℕ → Type 0
 HeightReached q p r =
     (h : ℕ) → (r ≡ Some h) ↔ (AskedIsValid q × ListsSuffice q × Path (asked_code q) p h)
+
+-- where a path to p at height h was before: at a place where an instruction stands, which found
+-- there what it takes and left h, and which may go on at p
+pub record Predecessor (code : List ℕ) (p h : ℕ) : Type 0 where
+  pub place : ℕ
+  pub height : ℕ
+  pub instruction : Instruction
+  pub operation : Operation
+  pub path : Path code place height
+  pub stands : InstructionAt code place instruction operation
+  pub met : (effect_of operation instruction).takes ≤ height
+  pub left : h + (effect_of operation instruction).takes
+      ≡ height + (effect_of operation instruction).leaves
+  pub on : Among p (successors code place instruction operation)
+
+-- how a path comes to p at height h: it begins there, or was at another place before
+abbrev pub Comes : List ℕ → ℕ → ℕ → Type 0
+Comes code p h = ((p ≡ 0) × (h ≡ 0)) ⊎ Predecessor code p h
 
 -- two lists of heights have the same for every pair of the code
 abbrev pub SameHeights : List ℕ → List ℕ → List ℕ → Type 0

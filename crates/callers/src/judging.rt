@@ -11,7 +11,7 @@ ghost use Rattle.soundness.specs.Rules.{ValidHeader, ValidFlags, ValidLiterals};
 ghost use Rattle.soundness.specs.Verdicts.{IsValid, ListsSuffice, FirstFault, asked_parcel, asked_code};
 ghost use Rattle.stages.specs.Check.{question_on, checked};
 ghost use Rattle.stages.specs.Examination.{height_at};
-ghost use Rattle.callers.specs.Judging.{height_of_start, HeightReached, SameHeights, before_lists, KeptBefore, ToldOfPaths};
+ghost use Rattle.callers.specs.Judging.{height_of_start, HeightReached, Comes, SameHeights, before_lists, KeptBefore, ToldOfPaths};
 
 use checker::check;
 use hosts::Host;
@@ -104,7 +104,8 @@ fn height_of_pair(heights: &[u8], pair: usize) -> Option<u8>
 }
 
 /// The height of the paths to a place of a parcel that is accepted, and nothing where no path comes
-/// to it: an instruction starts wherever there is an answer. The lists are left as by the check.
+/// to it: an instruction starts wherever there is an answer, and place 0 has height 0 unless it is
+/// reached from another. The lists are left as by the check.
 pub fn height_reached<H: Host>(
     host: &H,
     bytes: &[u8],
@@ -116,6 +117,7 @@ pub fn height_reached<H: Host>(
     ensures reached { HeightReached (question_on (H.means host.now) trusted bytes.now heights.old
         waiting.old) place result }
     ensures starts { IfSome result (λ h. starts_at (parcel bytes.now).code place ≡ true) }
+    ensures comes { IfSome result (Comes (parcel bytes.now).code place) }
 {
     check(host, bytes, trusted, heights, waiting).ok()?;
     let parcel = Parcel::read(bytes).ok()?;

@@ -2,7 +2,7 @@ use Rattle.std.proofs.Common.{ℕ, List, length, Option, sym, ap, ◌∙◌, sub
 use Rattle.stages.specs.Check.{question_on}
 use Rattle.callers.specs.Judging.{HeightReached}
 use Rattle.callers.proofs.Starting.{accepted}
-use Rattle.callers.proofs.JudgingVerdicts.{code_read, reached_there, not_reached, starts_there}
+use Rattle.callers.proofs.JudgingVerdicts.{code_read, reached_there, not_reached, starts_there, comes_there}
 use Rattle.callers.proofs.judging.height_reached.Goals.{then-place-ne0-via-then-place-ne0, then-place-ne0-via-else-place-ne0+then-place-parcel}
 use Rattle.callers.proofs.judging.height_reached.Goals as goal
 
@@ -32,3 +32,8 @@ returns-clause-starts g c =
     let q = question_on (g.H.Host.means c.args.host.now) c.args.trusted c.args.bytes.now c.args.heights.now c.args.waiting.now in
     let e = accepted c.check.result c.in_ok-ok.field-0 (sym c.ok.ensures.value ∙ c.in_ok-ok.was) in
     starts_there q _ c.check.ensures.means c.in_ok-ok.field-0 e c.args.place c.height_of_pair.result (returns-clause-reached g c)
+
+pub returns-clause-comes : goal.returns-clause-comes
+returns-clause-comes g c =
+    let q = question_on (g.H.Host.means c.args.host.now) c.args.trusted c.args.bytes.now c.args.heights.now c.args.waiting.now in
+    comes_there q _ c.check.ensures.means c.args.place c.height_of_pair.result (returns-clause-reached g c)
