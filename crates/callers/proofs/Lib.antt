@@ -1,3 +1,4 @@
+pub mod JudgingVerdicts
 pub mod Leaning
 pub mod Starting
 pub mod Staying

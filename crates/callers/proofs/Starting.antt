@@ -10,7 +10,7 @@ use Rattle.stages.specs.declared.heights.TheConstants.{NO_HEIGHT}
 use Rattle.parcels.specs.Parts.{parcel}
 use Rattle.soundness.specs.Paths.{start}
 use Rattle.soundness.specs.Verdicts.{VerdictMeans}
-use Rattle.callers.specs.Relying.{height_of_start}
+use Rattle.callers.specs.Judging.{height_of_start}
 
 -- a byte that holds a height holds that number
 byte_is : (b h : ℕ) → height_of b ≡ Some h → b ≡ h

@@ -18,11 +18,6 @@ use Rattle.semantics.specs.declared.states.Stop.TheVariants.{NotUnderstood, NoBl
 use Rattle.safety.specs.Histories.{HeldRuns, Holds, History, top_of, with_answer, Sends, Stores, MeetsNoBlock}
 use Rattle.callers.specs.declared.relying.Seen.{Seen}
 
--- the height of place 0 by a verdict: 0 where the parcel is accepted
-abbrev pub height_of_start : Result ℕ Fault → Option ℕ
-height_of_start (Ok top) = Some 0
-height_of_start (Err f) = None
-
 -- what a caller sees of a live run is the only height of the paths to its place, where an
 -- instruction starts; it sees nothing of another
 abbrev pub SeenRight : RunView → Option Seen → Type 0

@@ -7,5 +7,7 @@ mod judging;
 mod relying;
 
 pub use files::{short_count, stepped_file};
-pub use judging::{first_height, refusal_of};
+pub use judging::{
+    first_height, height_reached, hosts_agree, keeps_parts, refusal_of, refused_at, same_heights,
+};
 pub use relying::{Seen, step_and_look, step_beside_totals, step_explained, step_measured};

@@ -1,6 +1,6 @@
 use Rattle.std.proofs.Common.{sym, ap, ◌∙◌}
 use Rattle.stages.specs.Check.{question_on}
-use Rattle.callers.specs.Relying.{height_of_start}
+use Rattle.callers.specs.Judging.{height_of_start}
 use Rattle.callers.proofs.Starting.{starts_low, accepted}
 use Rattle.callers.proofs.judging.first_height.Goals as goal
 
