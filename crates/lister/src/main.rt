@@ -1,13 +1,11 @@
-// Reads one parcel from standard input to its end, and prints one line: the verdict over the fixed
-// week file.
+// Reads one parcel from standard input, as far as its verdict needs, and prints one line: the
+// verdict over the fixed week file.
 #![tactic(auto)]
 
-use listing::list;
-use std::io::Read;
+use listing::{list, read_parcel};
 
 fn main(rt: HostRuntime) -> anyhow::Result<()> {
-    let mut parcel = Vec::new(rt.alloc());
-    rt.stdin().read_to_end(&mut parcel)?;
+    let parcel = read_parcel(rt.alloc(), rt.stdin())?;
     let verdict = list(rt.alloc(), &parcel)?;
     println!(rt; "{verdict}")?;
     Ok(())

@@ -39,6 +39,10 @@ abbrev pub verdict_on : Meaning → Bool → ℕ → List ℕ → Verdict
 verdict_on m t n b =
     as_verdict (checked (question_on m t b (replicate n 0) (replicate n 0))).verdict
 
+-- two parcels have the same verdict, whatever the host, the trust and the lists
+abbrev pub SameVerdict : List ℕ → List ℕ → Type 0
+SameVerdict b c = (m : Meaning) (t : Bool) (n : ℕ) → verdict_on m t n b ≡ verdict_on m t n c
+
 -- the verdict on an untrusted parcel b over a week file f, with lists of n entries
 abbrev pub verdict_over : List ℕ → ℕ → List ℕ → Verdict
 verdict_over f n b = verdict_on (week_meaning f) false n b

@@ -1,28 +1,14 @@
 // One parcel over a host, and over a week file that is always the same.
 ghost use Rattle.std.specs.Prelude.{◌≡◌, IfOk};
 ghost use Rattle.stages.specs.declared.heights.TheConstants.{MAX_PAIRS};
-ghost use Rattle.listing.specs.Listed.{fixed_week, verdict_on, listed, WorkedVerdicts};
+ghost use Rattle.listing.specs.Listed.{verdict_on, listed, WorkedVerdicts};
 
+use crate::fixed_week::FixedWeek;
 use crate::verdicts::Verdict;
 use checker::check;
 use hosts::Host;
 use stages::MAX_PAIRS;
 use std::alloc::{AllocError, Global};
-use week_file::WeekFile;
-
-// Four variables and two bindings, all nil, and receiver object 0; variable 3 and binding 1 are
-// trusted.
-const FIXED_WEEK: [u8; 44] = [
-    0, 4, 0, 2, 0, 0, 0, 0, 0, 0, 0, 0, 0, 0, 0, 0, 0, 0, 0, 0, 0, 0, 0, 0, 0, 0, 1, 0, 0, 0, 0, 0,
-    0, 0, 0, 0, 0, 0, 1, 0, 0, 0, 0, 0,
-];
-
-// The fixed week file as a host.
-fn fixed_file(heap: Global) -> Result<WeekFile, AllocError>
-    ensures { IfOk result (λ h. h.bytes.items ≡ fixed_week) }
-{
-    Ok(WeekFile::open(FIXED_WEEK.to_vec(heap)?))
-}
 
 /// The verdict on a parcel, trusted or not, over a host. It asks for no memory: the lists of the
 /// check lie on the stack, and are long enough for every code.
@@ -34,11 +20,11 @@ pub fn verdict_of<H: Host>(host: &H, parcel: &[u8], trusted: bool) -> Verdict
     Verdict(check(host, parcel, trusted, &mut heights, &mut waiting))
 }
 
-/// The verdict on an untrusted parcel over the fixed week file. An error says that memory ran out.
+/// The verdict on an untrusted parcel over the fixed week file. An error says that there was no
+/// memory for that file; `FixedWeek::verdict` asks for none.
 pub fn list(heap: Global, parcel: &[u8]) -> Result<Verdict, AllocError>
     ensures answer { IfOk result (λ v. v ≡ listed parcel.now) }
     ensures worked { WorkedVerdicts }
 {
-    let host = fixed_file(heap)?;
-    Ok(verdict_of(&host, parcel, false))
+    Ok(FixedWeek::new(heap)?.verdict(parcel))
 }

@@ -15,7 +15,7 @@ use Rattle.hosts.proofs.Cells.{like_same, like_trans}
 use Rattle.semantics.specs.Steps.{RunView, CallAnswer, moved, StepUnless, Step, step_tests, frame_cells, next_script}
 use Rattle.semantics.proofs.Executing.{like}
 use Rattle.semantics.specs.Opening.{opened, opened_unless, opened_by, empty}
-use Rattle.safety.specs.Histories.{HeldRuns, Call, takes, opens, steps, collects, History, new, called}
+use Rattle.safety.specs.Histories.{HeldRuns, Call, takes, opens, steps, History, new, called}
 use Rattle.safety.proofs.Safety.{every_history_is_safe}
 use Rattle.planning.specs.Keeping.{StaysWithin, Led, LeadsOn, Going}
 use Rattle.planning.specs.declared.options.Plan.{Plan}

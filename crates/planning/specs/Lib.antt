@@ -2,6 +2,7 @@ pub mod Commands
 pub mod Frames
 pub mod Keeping
 pub mod Meeting
+pub mod Relying
 pub mod Rows
 pub mod Texts
 pub mod Turns

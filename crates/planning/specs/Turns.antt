@@ -1,5 +1,5 @@
 -- What parcels do to a host, one after the other.
-use Rattle.std.specs.Prelude.{◌≡◌, ℕ, ◌+◌, List, replicate, Ok, Err, Result, vec_items}
+use Rattle.std.specs.Prelude.{◌≡◌, ℕ, ◌+◌, List, replicate, None, IsSomeAnd, Ok, Err, Option, Result, vec_items}
 use Rattle.values.specs.declared.faults.Fault.{Fault}
 use Rattle.values.specs.declared.kinds.Value.{Value}
 use Rattle.hosts.specs.Meaning.{Meaning, Sent}
@@ -20,18 +20,20 @@ abbrev pub opened_under : Plan → Meaning → List ℕ → (f : List Value) →
 opened_under p m b f = opened (question_under p m b) (vec_items p.arguments) f empty
 
 module _ {S : Type 0} (means : S → Meaning) (may : S → Sent → Value → S → Type 0) (p : Plan) where
-  -- a parcel that is accepted is opened under the plan, with a frame of its own, and played
-  abbrev pub HandledBy : Result ℕ Fault → List ℕ → S → S → Type 0
-  HandledBy (Err x) b s s' = means s' ≡ means s
-  HandledBy (Ok top) b s s' =
-      (out : Outcome) × (f' : List Value)
-      × Played means may (opened_under p (means s) b (frame_of b)) p.steps s out s' f'
+  -- a parcel that is refused is not played, and leaves the host as it was; one that is accepted is
+  -- opened under the plan, with a frame of its own, and played with the outcome o
+  abbrev pub HandledBy : Result ℕ Fault → List ℕ → S → (o : Option Outcome) → S → Type 0
+  HandledBy (Err x) b s o s' = (o ≡ None) × (means s' ≡ means s)
+  HandledBy (Ok top) b s o s' =
+      IsSomeAnd o (λ out. (f' : List Value)
+      × Played means may (opened_under p (means s) b (frame_of b)) p.steps s out s' f')
 
-  -- what a parcel does to a host, by the check's verdict on it
-  abbrev pub Handled : List ℕ → S → S → Type 0
-  Handled b s s' = HandledBy (checked (question_under p (means s) b)).verdict b s s'
+  -- what a parcel does to a host, with the outcome o, by the check's verdict on it
+  abbrev pub Handled : List ℕ → S → (o : Option Outcome) → S → Type 0
+  Handled b s o s' = HandledBy (checked (question_under p (means s) b)).verdict b s o s'
 
   -- so many parcels, whatever their bytes, lead in turn from one host to another
   pub data InTurn (s₀ : S) : ℕ → S → Type 0 where
     none : InTurn s₀ 0 s₀
-    more : {k : ℕ} {s s' : S} → InTurn s₀ k s → (b : List ℕ) → Handled b s s' → InTurn s₀ (k + 1) s'
+    more : {k : ℕ} {s s' : S} → InTurn s₀ k s → (b : List ℕ) (o : Option Outcome)
+        → Handled b s o s' → InTurn s₀ (k + 1) s'

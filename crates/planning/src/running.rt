@@ -1,5 +1,5 @@
 // One parcel on a host: the check, the opening, and steps up to a budget.
-ghost use Rattle.std.specs.Prelude.{◌≡◌, IfOk, OnOk};
+ghost use Rattle.std.specs.Prelude.{◌≡◌, IfOk};
 ghost use Rattle.engine.specs.View.{view};
 ghost use Rattle.planning.specs.Frames.{cells_in, frame_of};
 ghost use Rattle.planning.specs.Keeping.{StaysWithin, Going, LeadsOn, Followed, Played};
@@ -127,25 +127,28 @@ fn play<H: Host>(
     Ok(Outcome(Ok(ran)))
 }
 
-// Checks a parcel on a host, and opens and steps it where it is accepted. The lines of both are
-// printed under its path.
+/// Checks a parcel on a host, and opens and steps it where it is accepted. The lines of both are
+/// printed under its path. It answers what came of the parcel, nothing where the check refuses it.
+/// An error says that a line could not be printed or that memory ran out; marks and trusted cells
+/// are then still as the plan says.
 pub fn run_parcel<H: Host>(
     rt: &(impl Print + AllocGlobal),
     plan: &Plan,
     host: &mut H,
     path: &str,
     bytes: &[u8],
-) -> io::Result<()>
+) -> io::Result<Option<Outcome>>
     ensures within { StaysWithin plan.now (H.means host.old) (H.means host.new) }
-    ensures handled { OnOk result (Handled H.means H.may plan.now bytes.now host.old host.new) }
+    ensures handled { IfOk result (λ o. Handled H.means H.may plan.now bytes.now host.old o
+        host.new) }
 {
     let verdict = verdict_of(host, bytes, plan.trusted);
     println!(rt; "parcel {path}: {verdict}")?;
     if verdict.0.is_err() {
-        return Ok(());
+        return Ok(None);
     }
     let mut frame = frame_for(rt.alloc(), bytes)?;
     let outcome = play(rt, plan, host, bytes, &mut frame)?;
     println!(rt; "parcel {path}: {outcome}")?;
-    Ok(())
+    Ok(Some(outcome))
 }

@@ -1,9 +1,0 @@
-use Rattle.std.proofs.Common.{ℕ, List, ap, ◌∙◌}
-use Rattle.stages.specs.declared.heights.TheConstants.{MAX_PAIRS}
-use Rattle.listing.specs.Listed.{verdict_over}
-use Rattle.listing.proofs.listed.list.Goals as goal
-
-pub returns-clause-answer : goal.returns-clause-answer
-returns-clause-answer c =
-    c.verdict_of.ensures
-    ∙ ap (λ (f : List ℕ). verdict_over f MAX_PAIRS c.args.parcel.now) c.in_ok-host.ensures
