@@ -1,0 +1,4 @@
+pub mod Playing
+pub mod Week
+
+pub mod Working

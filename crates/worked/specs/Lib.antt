@@ -1,0 +1,6 @@
+pub mod Verdicts
+pub mod Running
+pub mod Hosts
+pub mod Runs
+pub mod Numbers
+pub mod Examples
