@@ -1,4 +1,3 @@
 pub mod Playing
 pub mod Week
-
 pub mod Working

@@ -1,13 +1,13 @@
 -- A run over a host whose answers are known is worked out by computing it.
-use Rattle.std.proofs.Common.{◌≡◌, ℕ, zero, suc, Bool, List, [], ◌∷◌, map, Some, None, Option, Ok, sym, refl, ap, ◌∙◌, subst}
+use Rattle.std.proofs.Common.{◌≡◌, ℕ, zero, suc, List, [], ◌∷◌, map, Some, None, Option, Ok, sym, refl, ap, ◌∙◌, subst}
 use Rattle.values.specs.Order.{first}
 use Rattle.values.specs.declared.faults.Fault.{Fault}
 use Rattle.values.specs.declared.kinds.Value.{Value}
 use Rattle.hosts.specs.Meaning.{Meaning, Sent, Answered, with_cell}
 use Rattle.hosts.specs.declared.rows.Row.{Row}
-use Rattle.semantics.specs.Scripts.{Access, read_cell, read_cells, write_cell, read_literal, read_receiver, read_row, write_row, send, Answer, Outcome, Leaf, comes_to, stuck, Script, act, done}
-use Rattle.semantics.specs.Execution.{answer_of, frame_after, meaning_after, Does, Exec}
-use Rattle.semantics.specs.Steps.{RunView, CallAnswer, step_tests, next_script, moved, StepUnless, Step}
+use Rattle.semantics.specs.Scripts.{write_row, send, Outcome, comes_to, stuck, Script, act, done}
+use Rattle.semantics.specs.Execution.{answer_of, frame_after, meaning_after, Exec}
+use Rattle.semantics.specs.Steps.{RunView, CallAnswer, step_tests, next_script, moved, StepUnless}
 use Rattle.worked.specs.Running.{MayStep, AfterSteps, RunRow, opening, RowHolds, EveryRow}
 
 -- what comes of a script or of a step: an outcome or a run, the frame, and what the host means
@@ -33,6 +33,18 @@ some-of d (Some x) = x
 
 some-inj : {X : Type 0} (x y : X) → Some x ≡ Some y → x ≡ y
 some-inj x y e = ap (some-of x) e
+
+-- what follows from what comes of some steps
+pub after_more : {S : Type 0} (means : S → Meaning) (may : S → Sent → Value → S → Type 0)
+    (n : ℕ) (run : RunView) (f : List Value) (s : S) (P Q : RunView → List Value → S → Type 0)
+    → ((run' : RunView) (f' : List Value) (s' : S) → P run' f' s' → Q run' f' s')
+    → AfterSteps means may n run f s P → AfterSteps means may n run f s Q
+after_more means may zero run f s P Q h p = h run f s p
+after_more means may (suc n) run f s P Q h p = (
+  p.0,
+  λ a run' f' s' d.
+      let x = p.1 a run' f' s' d in (x.0, after_more means may n run' f' s' P Q h x.1),
+)
 
 module _ (reply : Sent → Option Value) where
   module _ (literals : List ℕ) where
@@ -136,9 +148,11 @@ module _ (reply : Sent → Option Value) where
         step_only None w a run' f' s' e d =
             let x = only run.parts.literals (next_script run) f s d.0 f' s' d.3 in
             let y : Some (moved run d.0, f', means s') ≡ Some w =
-            sym (ap (λ p. on_with p (λ (w : Reached Outcome). Some (moved run w.0, w.1, w.2))) x) ∙ e in
-            (d.1, ap (λ (r : RunView). (r, f', means s')) d.2
-            ∙ some-inj (moved run d.0, f', means s') w y)
+            sym (ap (λ p. on_with p (λ (w : Reached Outcome). Some (moved run w.0, w.1, w.2))) x) ∙ e in (
+              d.1,
+              ap (λ (r : RunView). (r, f', means s')) d.2
+                  ∙ some-inj (moved run d.0, f', means s') w y,
+            )
 
       -- what is reached is w
       abbrev pub Comes : Reached RunView → RunView → List Value → S → Type 0
@@ -151,10 +165,12 @@ module _ (reply : Sent → Option Value) where
           → steps_of k run' f' (means s') ≡ Some w → AfterSteps means may k run' f' s' (Comes w))
           → AfterSteps means may (suc k) run f s (Comes w)
       mutual-steps k run f s w None p e more = absurd (none-some e)
-      mutual-steps k run f s w (Some u) p e more =
-          (step_comes run f s u p, λ a run' f' s' d.
-          let x = step_only run f s (first (step_tests run f (means s))) u a run' f' s' p d in
-          (x.0, more run' f' s' (ap (λ (z : Reached RunView). steps_of k z.0 z.1 z.2) x.1 ∙ e)))
+      mutual-steps k run f s w (Some u) p e more = (
+        step_comes run f s u p,
+        λ a run' f' s' d.
+            let x = step_only run f s (first (step_tests run f (means s))) u a run' f' s' p d in
+            (x.0, more run' f' s' (ap (λ (z : Reached RunView). steps_of k z.0 z.1 z.2) x.1 ∙ e)),
+      )
 
       pub after_steps : (k : ℕ) (run : RunView) (f : List Value) (s : S) (w : Reached RunView)
           → steps_of k run f (means s) ≡ Some w → AfterSteps means may k run f s (Comes w)
@@ -174,8 +190,11 @@ module _ (reply : Sent → Option Value) where
         abbrev pub expected : RunRow → Option (Reached RunView)
         expected r =
             let o = opening (means s) r.parcel x f in
-            Some (record o.run { state = r.state; place = r.place; height = r.height },
-            r.frame, r.host)
+            Some (
+              record o.run { state = r.state; place = r.place; height = r.height },
+              r.frame,
+              r.host,
+            )
 
         holds : (r : RunRow) → computed r ≡ expected r → RowHolds means may s x f r
         holds r e =

@@ -1,10 +1,10 @@
 -- The hosts of the worked runs answer by what is known of them.
-use Rattle.std.proofs.Common.{◌≡◌, ℕ, Bool, true, false, List, Some, None, Option, Ok, Err, Result, sym, refl, ap, ◌∙◌}
+use Rattle.std.proofs.Common.{◌≡◌, ℕ, List, Some, None, Option, Ok, Err, Result, sym, refl, ap, ◌∙◌}
 use Rattle.std.specs.Prelude.{◌||◌, MatchBool, MatchOption, is_some}
 use Rattle.std.specs.Option.{option_or}
 use Rattle.values.specs.declared.faults.Fault.{Fault}
 use Rattle.values.specs.declared.kinds.Value.{Value}
-use Rattle.hosts.specs.Meaning.{Meaning, Sent, Answered, with_cell}
+use Rattle.hosts.specs.Meaning.{Sent, with_cell}
 use Rattle.hosts.specs.declared.rows.Row.{Row}
 use Rattle.hosts.specs.declared.rows.Row.TheVariants.{Variables, Bindings}
 use Rattle.arithmetic.specs.Layer.{layered, MayLayered}
@@ -70,6 +70,7 @@ willing_replies tell = record {
         → MatchOption r ⊥ (λ v. v ≡ tell m) → (r ≡ Some (tell m)) × (willing ≡ willing)
     known s m None t x = absurd x
     known s m (Some v) t x = (ap Some x, refl)
+
     by : (row : Row) (i : ℕ) (v : Value) → willing ≡ with_cell willing row i v
     by Variables i v = refl
     by Bindings i v = refl

@@ -49,13 +49,13 @@ layer_rows x c d e =
     row_on (layered fixed_meaning) minus_7 (46 ∷ 0 ∷ 44 ∷ 2 ∷ 13 ∷ 0 ∷ 40 ∷ 2 ∷ []) 3 Live 6 1
     (frame_of x Nil (whole (negsuc 3)) (int 2) e)
     ∷ row_on (layered fixed_meaning) minus_7 (46 ∷ 0 ∷ 44 ∷ 2 ∷ 10 ∷ 0 ∷ 40 ∷ 2 ∷ []) 3 Live 6 1
-      (frame_of x Nil (int 1) (int 2) e)
+    (frame_of x Nil (int 1) (int 2) e)
     ∷ row_on (layered fixed_meaning) minus_2 (44 ∷ 7 ∷ 46 ∷ 0 ∷ 10 ∷ 0 ∷ 40 ∷ 2 ∷ []) 3 Live 6 1
-      (frame_of x Nil (whole (negsuc 0)) (whole (negsuc 1)) e)
+    (frame_of x Nil (whole (negsuc 0)) (whole (negsuc 1)) e)
     ∷ row_on (layered fixed_meaning) [] (45 ∷ 0 ∷ 20 ∷ 0 ∷ 40 ∷ 2 ∷ []) 2 Live 4 1
-      (frame_of x Nil True d e)
+    (frame_of x Nil True d e)
     ∷ row_on (layered fixed_meaning) [] (44 ∷ 7 ∷ 44 ∷ 0 ∷ 13 ∷ 0 ∷ 40 ∷ 2 ∷ []) 3
-      (Stopped (NotUnderstood 13)) 4 2 (frame_of x Nil (int 7) (int 0) e)
+    (Stopped (NotUnderstood 13)) 4 2 (frame_of x Nil (int 7) (int 0) e)
     ∷ []
 
 -- what was worked out of the layer

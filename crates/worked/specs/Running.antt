@@ -1,7 +1,6 @@
 -- What a run comes to after some steps, whatever may come of each.
 use Rattle.std.specs.Prelude.{◌≡◌, ℕ, zero, suc, ◌/◌, ◌%◌, false, List, [], ◌∷◌, ◌++◌, length, replicate, Ok}
 use Rattle.values.specs.declared.kinds.Value.{Value}
-use Rattle.values.specs.declared.kinds.Value.TheVariants.{Nil}
 use Rattle.hosts.specs.Meaning.{Meaning, Sent}
 use Rattle.parcels.specs.declared.literals.TheConstants.{LITERAL_BYTES}
 use Rattle.parcels.specs.declared.reading.TheConstants.{PAIR_BYTES}
@@ -44,7 +43,6 @@ method_flags = 0 ∷ 0 ∷ 8 ∷ 33 ∷ []
 -- a block of the same shape, with chain use 31
 abbrev pub block_flags : List ℕ
 block_flags = 2 ∷ 16 ∷ 64 ∷ 31 ∷ []
-
 
 -- the frame of a run with 3 working cells
 abbrev pub frame_of : (argument local a b c : Value) → List Value

@@ -1,7 +1,8 @@
 -- The lines of verdicts over the fixed week file, worked out by hand.
 use Rattle.std.specs.Prelude.{◌≡◌, ℕ, List, [], ◌∷◌, map, codes}
-use Rattle.listing.specs.Listed.{listed, method_bytes, forty_turns}
+use Rattle.listing.specs.Listed.{listed, forty_turns}
 use Rattle.listing.specs.Lines.{line}
+use Rattle.worked.specs.Running.{bytes_of}
 
 -- an untrusted method without literals, by its flags and its code, and the line of its verdict
 pub record VerdictRow : Type 0 where
@@ -35,14 +36,14 @@ verdict_rows =
     ∷ four_slots (55 ∷ 32 ∷ 55 ∷ 0 ∷ 55 ∷ 0 ∷ 44 ∷ 0 ∷ 51 ∷ 0 ∷ []) (codes "refused 15 at 0")
     ∷ four_slots (56 ∷ 0 ∷ 56 ∷ 0 ∷ 56 ∷ 0 ∷ 56 ∷ 0 ∷ 51 ∷ 0 ∷ []) (codes "accepted 4")
     ∷ four_slots (56 ∷ 0 ∷ 56 ∷ 0 ∷ 56 ∷ 0 ∷ 56 ∷ 0 ∷ 56 ∷ 0 ∷ 51 ∷ 0 ∷ [])
-      (codes "refused 22 at 8")
+    (codes "refused 22 at 8")
     ∷ one_local (forty_turns 48) (codes "accepted 2")
     ∷ one_local (forty_turns 54) (codes "refused 24 at 6")
     ∷ []
 
 -- the line that is printed for a row, over the fixed week file with lists for every code
 abbrev pub printed : VerdictRow → List ℕ
-printed r = line (listed (method_bytes r.flags r.code))
+printed r = line (listed (bytes_of 0 r.flags [] r.code))
 
 -- each line is printed
 abbrev pub WorkedVerdictLines : Type 0
