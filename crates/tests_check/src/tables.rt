@@ -73,8 +73,8 @@ struct Met {
 }
 
 // An instruction at height h, at place 2 * h + 4, with its argument in four pairs, directly after a
-// push of a block that no path reaches. Two jumps to themselves follow it: a forward jump by 2 lands
-// at the second.
+// push of a block that no path reaches. Two jumps to themselves follow it: a forward jump by 2
+// lands at the second.
 fn meets(bench: &Bench, h: u8, opcode: u8, argument: u32) -> Result<Met, AllocError> {
     let [a, b, c, d] = argument.to_be_bytes();
     let rest = [41, 2, 46, 2, 55, a, 55, b, 55, c, opcode, d, 40, 2, 40, 2];
@@ -113,7 +113,7 @@ fn goes_on(rt: &impl Abort, bench: &Bench, row: OpcodeRow, opcode: u8, h: u8) ->
     Ok(())
 }
 
-// A row's opcode goes on from its need and from a greater height, and is refused one below its need.
+// A row's opcode goes on from its need and from a greater height, and is refused one below it.
 fn keeps(rt: &impl Abort, bench: &Bench, row: OpcodeRow, opcode: u8) -> Result<(), Fail> {
     let (_, _, argument, takes, _, _) = row;
     goes_on(rt, bench, row, opcode, takes)?;
