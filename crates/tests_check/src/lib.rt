@@ -20,4 +20,6 @@ mod opcodes;
 #[cfg(test)]
 mod orders;
 #[cfg(test)]
+mod tables;
+#[cfg(test)]
 mod tried;

@@ -4,6 +4,8 @@
 #[cfg(test)]
 mod classes;
 #[cfg(test)]
+mod counting;
+#[cfg(test)]
 mod refusals;
 #[cfg(test)]
 mod turns;
