@@ -80,7 +80,7 @@ module _ {S : Type 0} (means : S → Meaning) (may : S → Sent → Value → S 
   pub unrefused : Lawful means may
       → (run run' : RunView) (s s' : S) (f f' : List Value) (a : CallAnswer) → Going means may s run f → run.state ≡ Live → Step means may run f s a run' f' s' → a ≡ Ok tt
   unrefused law run run' s s' f f' a x l st =
-      ((every_history_is_safe means may law x.began s (Some run ∷ []) x.led.past).progress 0 run refl l f f' a run' s' x.long st).unrefused
+      ((every_history_is_safe means may law x.began s (Some run ∷ []) x.led.past).progress 0 run refl l f f' a run' s' x.long st).0.unrefused
 
   -- and goes on after a step, with a frame that is as long
   pub goes_further : (run run' : RunView) (s s' : S) (f f' : List Value) (a : CallAnswer) → length f' ≡ length f → Going means may s run f → Step means may run f s a run' f' s' → Going means may s' run' f'
