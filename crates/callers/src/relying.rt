@@ -59,7 +59,9 @@ pub fn step_measured<H: Host>(
     ensures measured { Measured H.means H.may host.old (view run.old) result }
 {
     let before = run.height();
-    run.step(host, frame).ok()?;
+    let Ok(()) = run.step(host, frame) else {
+        return None;
+    };
     let State::Live = run.state() else {
         return None;
     };
