@@ -1,5 +1,5 @@
 -- What callers rely on follows from the clauses of a step.
-use Rattle.std.proofs.Common.{◌≡◌, ℕ, ◌*◌, ◌/◌, ◌<◌, ◌≤◌, ◌⊎◌, eqb, ◌&&◌, inl, inr, Bool, true, false, not, List, length, take, slice_index_or, Some, None, Ok, Err, Option, Result, sym, refl, ap, ◌∙◌, subst, arith}
+use Rattle.std.proofs.Common.{◌≡◌, ℕ, ◌+◌, ◌-◌, ◌*◌, ◌/◌, ◌<◌, ◌≤◌, ◌⊎◌, eqb, ◌&&◌, inl, inr, Bool, true, false, not, List, length, take, slice_index_or, Some, None, Ok, Err, Option, Result, sym, refl, ap, ◌∙◌, subst, arith}
 use Rattle.std.specs.Prelude.{◌↔◌}
 use Rattle.std.proofs.lemmas.Bool.{eqb-true, ltb-false}
 use Rattle.std.proofs.lemmas.List.{get_or-set_same}
@@ -82,12 +82,12 @@ module _ {S : Type 0} (means : S → Meaning) (may : S → Sent → Value → S 
       by (Some t) e p = inl (t, p.0, p.1, p.2, p.3)
       by None e p =
           let q = first_none (step_tests run f (means s)) e in
-          let c = both_true (eqb (length (means s).variables) run.variable_count) (eqb (length (means s).bindings) run.binding_count) q.1 in
+          let c = both_true (eqb (length (means s).variables) run.variable_count) (eqb (length (means s).bindings) run.binding_count) q.1.0 in
           inr (p.1, record {
             live = live_of run.state q.0;
             variables = eqb-true _ _ c.0;
             bindings = eqb-true _ _ c.1;
-            long = ltb-false _ _ q.2.0;
+            long = ltb-false _ _ q.1.1.0;
           })
 
   module _ (safe : EveryHistoryIsSafe means may) (s s' : S) (run run' : RunView) where
