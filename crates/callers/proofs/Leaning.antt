@@ -162,15 +162,15 @@ module _ {S : Type 0} (means : S → Meaning) (may : S → Sent → Value → S 
           let w = (came x u).1 g g' s t run'' (agree u g long same) other in
           (w.0, λ none. (w.1 none).frames)
 
-      pub measured : run'.state ≡ Live → a ≡ Ok tt → Measured means may s run (Some (run.height, run'.height))
-      measured live e x i o at =
+      pub measured : run'.state ≡ Live → a ≡ Ok tt → Measured means may s run run' (Ok (Some (run.height, run'.height)))
+      measured live e = (live, refl, λ x i o at.
           let u = accepted e in
           let w = placed x u.live in
           let d = same_instruction w.stands at in (
             subst (λ (u : Operation). (effect_of u i).takes ≤ run.height) d.1
                 (subst (λ (j : Instruction). (effect_of w.operation j).takes ≤ run.height) d.0 w.need),
             ((came x u).0.led at live).1,
-          )
+          ))
 
       -- a refusal is none that this caller meets
       pub not_refused : (t : Fault) → a ≡ Err t → (r : Result (Option Stop) Fault) → Explained means may s run f r f' s'

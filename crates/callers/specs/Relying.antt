@@ -27,6 +27,11 @@ SeenRight run (Some x) =
     × Path run.parts.code (2 * x.pair) x.height
     × ((h : ℕ) → Path run.parts.code (2 * x.pair) h → h ≡ x.height)
 
+-- what a step came to whose caller answers more
+abbrev pub called : {X : Type 0} → Result X Fault → CallAnswer
+called (Ok x) = Ok tt
+called (Err x) = Err x
+
 module _ {S : Type 0} (means : S → Meaning) (may : S → Sent → Value → S → Type 0) where
   -- some list of calls led to the host s and the run
   abbrev pub Reached : S → RunView → Type 0
@@ -57,13 +62,15 @@ module _ {S : Type 0} (means : S → Meaning) (may : S → Sent → Value → S 
       → take (frame_cells run.parts) g' ≡ take (frame_cells run.parts) f')
 
   -- the heights before and after a step that leaves the run live: what the instruction takes is
-  -- there, and the height after is the table's
-  abbrev pub Measured : S → RunView → Option (ℕ × ℕ) → Type 0
-  Measured s run None = Unit {0}
-  Measured s run (Some h) =
-      Reached s run → (i : Instruction) (o : Operation)
+  -- there, and the height after is the table's; there are none exactly where it is live no more
+  abbrev pub Measured : S → RunView → RunView → Result (Option (ℕ × ℕ)) Fault → Type 0
+  Measured s run run' (Err x) = Unit {0}
+  Measured s run run' (Ok None) = run'.state ≢ Live
+  Measured s run run' (Ok (Some h)) =
+      (run'.state ≡ Live) × (h ≡ (run.height, run'.height))
+      × (Reached s run → (i : Instruction) (o : Operation)
       → InstructionAt run.parts.code run.place i o
-      → ((effect_of o i).takes ≤ h.0) × (h.1 ≡ after (effect_of o i) h.0)
+      → ((effect_of o i).takes ≤ run.height) × (run'.height ≡ after (effect_of o i) run.height))
 
   -- a stop is made for its reason alone, and whenever there is the reason; and what was done to the
   -- host: it took a message and its answer is in the frame, or a cell was set, or nothing was done

@@ -2,7 +2,7 @@
 ghost use Rattle.std.specs.Prelude.{◌≡◌};
 ghost use Rattle.semantics.specs.Steps.{CallAnswer, Step};
 ghost use Rattle.engine.specs.View.{view};
-ghost use Rattle.callers.specs.Relying.{Reached, SheetStays, Regardless, Measured, Explained, SeenRight};
+ghost use Rattle.callers.specs.Relying.{called, Reached, SheetStays, Regardless, Measured, Explained, SeenRight};
 
 use engine::Run;
 use hosts::Host;
@@ -48,24 +48,23 @@ pub fn step_and_look<H: Host>(run: &mut Run, host: &mut H, frame: &mut [Value]) 
     })
 }
 
-/// Steps a run and answers its heights before and after, if it was not refused and is live then.
+/// Steps a run and answers its heights before and after, if it is live then. It is refused as a step
+/// is.
 pub fn step_measured<H: Host>(
     run: &mut Run,
     host: &mut H,
     frame: &mut [Value],
-) -> Option<(usize, usize)>
-    ensures stepped { (a : CallAnswer) × Step H.means H.may (view run.old) frame.old host.old a
+) -> Result<Option<(usize, usize)>, Fault>
+    ensures stepped { Step H.means H.may (view run.old) frame.old host.old (called result)
         (view run.new) frame.new host.new }
-    ensures measured { Measured H.means H.may host.old (view run.old) result }
+    ensures measured { Measured H.means H.may host.old (view run.old) (view run.new) result }
 {
     let before = run.height();
-    let Ok(()) = run.step(host, frame) else {
-        return None;
-    };
+    run.step(host, frame)?;
     let State::Live = run.state() else {
-        return None;
+        return Ok(None);
     };
-    Some((before, run.height()))
+    Ok(Some((before, run.height())))
 }
 
 /// Steps a run and says which stop it made, if it made one. It is refused as a step is.
@@ -74,7 +73,7 @@ pub fn step_explained<H: Host>(
     host: &mut H,
     frame: &mut [Value],
 ) -> Result<Option<Stop>, Fault>
-    ensures stepped { (a : CallAnswer) × Step H.means H.may (view run.old) frame.old host.old a
+    ensures stepped { Step H.means H.may (view run.old) frame.old host.old (called result)
         (view run.new) frame.new host.new }
     ensures explained { Explained H.means H.may host.old (view run.old) frame.old result frame.new
         host.new }

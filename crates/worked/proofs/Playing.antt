@@ -5,8 +5,8 @@ use Rattle.values.specs.declared.faults.Fault.{Fault}
 use Rattle.values.specs.declared.kinds.Value.{Value}
 use Rattle.hosts.specs.Meaning.{Meaning, Sent, Answered, with_cell}
 use Rattle.hosts.specs.declared.rows.Row.{Row}
-use Rattle.semantics.specs.Scripts.{write_row, send, Outcome, comes_to, stuck, Script, act, done}
-use Rattle.semantics.specs.Execution.{answer_of, frame_after, meaning_after, Exec}
+use Rattle.semantics.specs.Scripts.{Access, write_row, send, Outcome, comes_to, stuck, Script, act, done}
+use Rattle.semantics.specs.Execution.{answer_of, frame_after, Exec}
 use Rattle.semantics.specs.Steps.{RunView, CallAnswer, step_tests, next_script, moved, StepUnless}
 use Rattle.worked.specs.Running.{MayStep, AfterSteps, RunRow, opening, RowHolds, EveryRow}
 
@@ -45,6 +45,11 @@ after_more means may (suc n) run f s P Q h p = (
   λ a run' f' s' d.
       let x = p.1 a run' f' s' d in (x.0, after_more means may n run' f' s' P Q h x.1),
 )
+
+-- what a host means after an access that is no message
+abbrev meaning_after : Access → Meaning → Meaning
+meaning_after (write_row r i v) m = with_cell m r i v
+meaning_after _ m = m
 
 module _ (reply : Sent → Option Value) where
   module _ (literals : List ℕ) where

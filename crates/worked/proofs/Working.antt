@@ -89,7 +89,7 @@ sends x a b c d e =
     let run = record o.run { place = 6; height = 3 } in
     let f = frame_of x Nil x True False in
     after_more week_meaning Replied 3 o.run o.frame fixed_week _ _
-    (carried (λ run' f'. Sends run' f' (message false 17 x (True ∷ False ∷ [])))
+    (carried (λ run' f'. Sends run' f' (message false 17 x (True ∷ False ∷ [])) (Some 2))
     (run, f, fixed_meaning) (short (record { rest = _; read = refl; known = refl })))
     (after_steps replies week_meaning Replied week_replies 3 o.run o.frame fixed_week
     (run, f, fixed_meaning) refl)

@@ -1,5 +1,5 @@
 -- Runs worked out by hand: one for each operation, and for each case of a value where it matters.
-use Rattle.std.specs.Prelude.{◌≡◌, ℕ, true, false, List, [], ◌∷◌, pos, Ok}
+use Rattle.std.specs.Prelude.{Some, ◌≡◌, ℕ, true, false, List, [], ◌∷◌, pos, Ok}
 use Rattle.std.specs.Option.{unwrap_or}
 use Rattle.values.specs.Kinds.{integer}
 use Rattle.values.specs.declared.kinds.Value.{Value}
@@ -187,13 +187,13 @@ told_rows tell x c d e =
     ∷ []
 
 -- after three steps over the fixed week file this one sends message 17, to the argument, with true
--- and false
+-- and false; the answer goes to cell 2, where the receiver is
 abbrev pub SendsPutting : Type 0
 SendsPutting =
     (x a b c d e : Value) →
     let o = opening fixed_meaning (bytes_of 0 method_flags [] putting) x (frame_of a b c d e) in
     AfterSteps week_meaning Replied 3 o.run o.frame fixed_week (λ run' f' s'.
-    Sends run' f' (message false 17 x (True ∷ False ∷ [])))
+    Sends run' f' (message false 17 x (True ∷ False ∷ [])) (Some 2))
 
 -- the jump to itself runs on for every number of steps: the run, the frame and the host stay
 abbrev pub RunsOn : Type 0

@@ -15,7 +15,7 @@ returns-in-Stopped-clause-explained g c =
 
 pub returns-in-Live : goal.returns-in-Live
 returns-in-Live g c = record {
-  stepped = (c.step.result, c.step.ensures.steps);
+  stepped = c.in_ok-step.ensures.steps;
   explained =
       explained g.H.Host.means g.H.Host.may c.step.ensures.safe c.args.host.now c.step.new.host (view c.args.run.now) (view c.step.new.self)
       c.args.frame.now c.step.new.frame c.step.result c.step.ensures.steps _ (search rules);
