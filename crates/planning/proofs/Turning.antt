@@ -8,13 +8,19 @@ use Rattle.parcels.specs.Parts.{Parts, parcel}
 use Rattle.stages.specs.Check.{checked}
 use Rattle.semantics.specs.Steps.{RunView}
 use Rattle.semantics.specs.Opening.{Opened, open_tests, opened_unless, opened_by, empty}
+use Rattle.semantics.specs.declared.states.State.{State}
 use Rattle.semantics.specs.declared.states.State.TheVariants.{Live}
 use Rattle.planning.specs.Frames.{frame_of}
 use Rattle.planning.specs.Keeping.{Played, PlayedBy, Stepped, none, more}
+use Rattle.planning.specs.Relying.{unstepped}
 use Rattle.planning.specs.Turns.{question_under, opened_under, Handled, HandledBy}
 use Rattle.planning.specs.declared.options.Plan.{Plan}
 use Rattle.planning.specs.declared.texts.Outcome.{Outcome}
 use Rattle.planning.specs.declared.texts.Ran.{Ran}
+
+-- what is left of no steps
+pub rested : (st : State) (place steps : ℕ) → st ≡ Live → place ≡ 0 → steps ≡ 0 → record { state = st; place = place; steps = steps } ≡ unstepped
+rested st place steps e d z = rw (e, d, z) refl
 
 module _ {S : Type 0} (means : S → Meaning) (may : S → Sent → Value → S → Type 0) (p : Plan) (b : List ℕ) (s s' : S) where
   -- a parcel that is not refused is played with some frame

@@ -1,5 +1,5 @@
-use Rattle.std.proofs.Common.{◌≡◌, ◌-◌, refl, arith}
-use Rattle.planning.proofs.Turning.{Stays, unopened_so, stays_so}
+use Rattle.std.proofs.Common.{◌≡◌, ◌-◌, arith}
+use Rattle.planning.proofs.Turning.{Stays, rested, unopened_so, stays_so}
 use Rattle.planning.proofs.relying.run_counted.Given.{Over}
 use Rattle.planning.proofs.relying.run_counted.Goals as goal
 use Rattle.planning.proofs.relying.run_counted.Goals.{In-Err, In-Ok}
@@ -24,7 +24,7 @@ pub returns-in-Ok-clause-begins : goal.returns-in-Ok-clause-begins
 returns-in-Ok-clause-begins g c z =
     let x = stays g (goal.at.returns-in-Ok-clause-begins g c).In-Ok z in
     let none : c.args.plan.now.steps - c.in-Ok.ran.steps ≡ 0 = omega (arith, z) in
-    rw (x.state, x.place, none) refl
+    rested c.in-Ok.ran.state c.in-Ok.ran.place _ x.state x.place none
 
 pub returns-in-Ok-clause-unmoved : goal.returns-in-Ok-clause-unmoved
 returns-in-Ok-clause-unmoved g c z = (stays g (goal.at.returns-in-Ok-clause-unmoved g c).In-Ok z).host
