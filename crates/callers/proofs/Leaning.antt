@@ -83,12 +83,15 @@ module _ {S : Type 0} (means : S → Meaning) (may : S → Sent → Value → S 
       by None e p =
           let q = first_none (step_tests run f (means s)) e in
           let c = both_true (eqb (length (means s).variables) run.variable_count) (eqb (length (means s).bindings) run.binding_count) q.1.0 in
-          inr (p.1, record {
-            live = live_of run.state q.0;
-            variables = eqb-true _ _ c.0;
-            bindings = eqb-true _ _ c.1;
-            long = ltb-false _ _ q.1.1.0;
-          })
+          inr (
+            p.1,
+            record {
+              live = live_of run.state q.0;
+              variables = eqb-true _ _ c.0;
+              bindings = eqb-true _ _ c.1;
+              long = ltb-false _ _ q.1.1.0;
+            },
+          )
 
   module _ (safe : EveryHistoryIsSafe means may) (s s' : S) (run run' : RunView) where
     placed : Reached means may s run → run.state ≡ Live → WellPlaced run
@@ -163,14 +166,18 @@ module _ {S : Type 0} (means : S → Meaning) (may : S → Sent → Value → S 
           (w.0, λ none. (w.1 none).frames)
 
       pub measured : run'.state ≡ Live → a ≡ Ok tt → Measured means may s run run' (Ok (Some (run.height, run'.height)))
-      measured live e = (live, refl, λ x i o at.
-          let u = accepted e in
-          let w = placed x u.live in
-          let d = same_instruction w.stands at in (
-            subst (λ (u : Operation). (effect_of u i).takes ≤ run.height) d.1
-                (subst (λ (j : Instruction). (effect_of w.operation j).takes ≤ run.height) d.0 w.need),
-            ((came x u).0.led at live).1,
-          ))
+      measured live e = (
+        live,
+        refl,
+        λ x i o at.
+            let u = accepted e in
+            let w = placed x u.live in
+            let d = same_instruction w.stands at in (
+              subst (λ (u : Operation). (effect_of u i).takes ≤ run.height) d.1
+                  (subst (λ (j : Instruction). (effect_of w.operation j).takes ≤ run.height) d.0 w.need),
+              ((came x u).0.led at live).1,
+            ),
+      )
 
       -- a refusal is none that this caller meets
       pub not_refused : (t : Fault) → a ≡ Err t → (r : Result (Option Stop) Fault) → Explained means may s run f r f' s'

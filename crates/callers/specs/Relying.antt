@@ -37,8 +37,8 @@ module _ {S : Type 0} (means : S → Meaning) (may : S → Sent → Value → S 
   abbrev pub Reached : S → RunView → Type 0
   Reached s run = (s₀ : S) × (rs : HeldRuns) × (k : ℕ) × History means may s₀ s rs × Holds rs k run
 
-  -- a live run's step leaves the cells behind those that the run counts, and the working cells below
-  -- those that its instruction takes; a refused step leaves all
+  -- a live run's step leaves the cells behind those that the run counts, and the working cells
+  -- below those that its instruction takes; a refused step leaves all
   pub record SheetStays (s : S) (run : RunView) (f f' : List Value) : Type 0 where
     pub behind : Reached s run → (n : ℕ) → frame_cells run.parts ≤ n
         → slice_index_or f' n Nil ≡ slice_index_or f n Nil

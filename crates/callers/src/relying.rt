@@ -48,8 +48,8 @@ pub fn step_and_look<H: Host>(run: &mut Run, host: &mut H, frame: &mut [Value]) 
     })
 }
 
-/// Steps a run and answers its heights before and after, if it is live then. It is refused as a step
-/// is.
+/// Steps a run and answers its heights before and after, if it is live then. It is refused as a
+/// step is.
 pub fn step_measured<H: Host>(
     run: &mut Run,
     host: &mut H,

@@ -36,8 +36,8 @@ module _ {S : Type 0} (means : S → Meaning) (may : S → Sent → Value → S 
       let x = subst (λ (c : Script). Exec d.parcel.literals.now means may c f s (outcome_of w) f' s') (script_is run d n.1) r.1 in
       let y = subst (λ (q : Parts). Exec q.literals means may (script_at run.parts run.place run.height d.instruction d.operation) f s (outcome_of w) f' s') n.1.parcel x in
       let l = everywhere_leaf run.parts.literals means may (λ _. Unit {0})
-          (Lands run.parts run.place run.height d.instruction d.operation)
-          (script_at run.parts run.place run.height d.instruction d.operation) f s (continues p h) f' s'
-          (leads_to run.parts run.place run.height d.instruction d.operation (need t n.1.stands))
-          (subst (λ z. Exec run.parts.literals means may (script_at run.parts run.place run.height d.instruction d.operation) f s z f' s') e y) in
+      (Lands run.parts run.place run.height d.instruction d.operation)
+      (script_at run.parts run.place run.height d.instruction d.operation) f s (continues p h) f' s'
+      (leads_to run.parts run.place run.height d.instruction d.operation (need t n.1.stands))
+      (subst (λ z. Exec run.parts.literals means may (script_at run.parts run.place run.height d.instruction d.operation) f s z f' s') e y) in
       onward t n.1.stands p h l.0 l.1

@@ -295,7 +295,7 @@ module _ {S : Type 0} (means : S → Meaning) (may : S → Sent → Value → S 
     -- where a live run is then
     led : {i : Instruction} {o : Operation} → InstructionAt run.parts.code run.place i o → run'.state ≡ Live
         → Among run'.place (successors run.parts.code run.place i o)
-          × (run'.height ≡ after (effect_of o i) run.height)
+        × (run'.height ≡ after (effect_of o i) run.height)
     led {i} {o} at l =
         let same = same_at at k.stands in
         by st.outcome refl lands (sym (ap (λ (r : RunView). r.state) st.run_is) ∙ l) same.0 same.1
@@ -304,7 +304,7 @@ module _ {S : Type 0} (means : S → Meaning) (may : S → Sent → Value → S 
             → Lands run.parts run.place run.height k.instruction k.operation (comes_to x)
             → (moved run st.outcome).state ≡ Live → i ≡ k.instruction → o ≡ k.operation
             → Among run'.place (successors run.parts.code run.place i o)
-              × (run'.height ≡ after (effect_of o i) run.height)
+            × (run'.height ≡ after (effect_of o i) run.height)
         by (continues p h) e w q x y =
             subst (λ (r : RunView). Among r.place (successors run.parts.code run.place i o) × (r.height ≡ after (effect_of o i) run.height))
             (sym (st.run_is ∙ ap (moved run) e))
@@ -348,8 +348,8 @@ module _ {S : Type 0} (means : S → Meaning) (may : S → Sent → Value → S 
     stored (to_variable at) = let x = came_of at in ap means x.2.2 ∙ x.1
     stored (to_binding {i} {n} at l) =
         let x = subst (λ (l : Option Literal). Exec run.parts.literals means may (given (binding_of l) (λ n.
-            act (read_cell (working_base run.parts + (run.height - 1))) (λ v. act (write_row Bindings n v) (λ _.
-            act (write_cell (working_base run.parts + (run.height - 1)) Nil) (λ _. continue_at (run.place + 2 * i.pairs) run.height))))) f s st.outcome f' s') l (came_of at) in
+        act (read_cell (working_base run.parts + (run.height - 1))) (λ v. act (write_row Bindings n v) (λ _.
+        act (write_cell (working_base run.parts + (run.height - 1)) Nil) (λ _. continue_at (run.place + 2 * i.pairs) run.height))))) f s st.outcome f' s') l (came_of at) in
         ap means x.2.2 ∙ x.1
 
     -- the host is left by what neither sends nor stores
@@ -490,6 +490,7 @@ module _ {S : Type 0} (means : S → Meaning) (may : S → Sent → Value → S 
       → (f : List Value) (s : S) (a : CallAnswer) (run' : RunView) (f' : List Value) (s' : S)
       → Made run f s a run' f' s' → SameWithin means may run f s run' f' s'
   same_within run m u sound f s a run' f' s' st g g' t t' run'' agree x =
-      let st' = unrefused run g t run'' g' t' x in
-      (same_run run m u sound f s run' f' s' a st g t run'' g' t' st' agree,
-      same_writes run m u sound f s run' f' s' a st g t run'' g' t' st' agree)
+      let st' = unrefused run g t run'' g' t' x in (
+        same_run run m u sound f s run' f' s' a st g t run'' g' t' st' agree,
+        same_writes run m u sound f s run' f' s' a st g t run'' g' t' st' agree,
+      )

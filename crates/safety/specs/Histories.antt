@@ -68,17 +68,17 @@ message_on run f super selector n =
     (take n (working run f (run.height - n)))
 
 -- the instruction at a run's place sends a message, whose answer goes to a cell of the frame or is
--- dropped: a short send its own; a send of a selector literal that literal's; and a conditional jump
--- whose top is neither true nor false mustBeBoolean
+-- dropped: a short send its own; a send of a selector literal that literal's; and a conditional
+-- jump whose top is neither true nor false mustBeBoolean
 pub data Sends (run : RunView) (f : List Value) : Sent → Option ℕ → Type 0 where
   short : {i : Instruction} → InstructionAt run.parts.code run.place i Send
       → Sends run f (message_on run f false i.opcode (arity_of i.opcode))
-        (Some (receiver_cell run (arity_of i.opcode)))
+      (Some (receiver_cell run (arity_of i.opcode)))
   selector : {i : Instruction} {super : Bool} {n : ℕ}
       → InstructionAt run.parts.code run.place i (SendSelector super)
       → literal run.parts.literals (i.argument / 256) ≡ Some (Selector n (i.argument % 256))
       → Sends run f (message_on run f super n (i.argument % 256))
-        (Some (receiver_cell run (i.argument % 256)))
+      (Some (receiver_cell run (i.argument % 256)))
   branch : {i : Instruction} {when : Bool}
       → InstructionAt run.parts.code run.place i (Branch when)
       → top_of run f ≢ True → top_of run f ≢ False
@@ -124,16 +124,16 @@ module _ {S : Type 0} (means : S → Meaning) (may : S → Sent → Value → S 
       (run' : RunView) (f' : List Value) (s' : S) : Type 0 where
     -- it is not refused
     pub unrefused : a ≡ Ok tt
-    -- a run that is live afterwards is at a successor of its instruction, at the height of the table
+    -- a run that is live afterwards is at a successor of its instruction, at the table's height
     pub led : {i : Instruction} {o : Operation} → InstructionAt run.parts.code run.place i o
         → run'.state ≡ Live
         → Among run'.place (successors run.parts.code run.place i o)
-          × (run'.height ≡ after (effect_of o i) run.height)
+        × (run'.height ≡ after (effect_of o i) run.height)
     -- it stops for one of two reasons alone, and exactly then
     pub not_understood : (n : ℕ)
         → (run'.state ≡ Stopped (NotUnderstood n))
         ↔ ((m : Sent) × (c : Option ℕ) × Sends run f m c
-          × ((means s).understands m ≡ false) × (m.selector ≡ n))
+        × ((means s).understands m ≡ false) × (m.selector ≡ n))
     pub no_block : (run'.state ≡ Stopped NoBlock) ↔ MeetsNoBlock run f
     -- a message that is understood is sent once, and its answer goes where it belongs
     pub sent : {m : Sent} {c : Option ℕ} → Sends run f m c → (means s).understands m ≡ true
@@ -160,8 +160,8 @@ module _ {S : Type 0} (means : S → Meaning) (may : S → Sent → Value → S 
       → AgreeBelow (counts_of run) f (means s) g (means t)
       → Step means may run g t (Ok tt) run'' g' t'
       → (run'' ≡ run')
-        × (((m : Sent) (c : Option ℕ) → Sends run f m c → ⊥)
-        → AgreeBelow (counts_of run) f' (means s') g' (means t'))
+      × (((m : Sent) (c : Option ℕ) → Sends run f m c → ⊥)
+      → AgreeBelow (counts_of run) f' (means s') g' (means t'))
 
   -- one call takes the host and the runs that are held to the host and the runs afterwards
   pub data Call : S → HeldRuns → S → HeldRuns → Type 0 where

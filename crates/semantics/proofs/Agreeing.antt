@@ -129,9 +129,9 @@ module _ (literals : List ℕ) (n : Counts) where
         (y.0, λ q. y.1 q.1)
     alike L (act (write_row q i v) k) f s o f' s' g t b g' t' u w e r x =
         let y = alike L (k tt) f r.0 o f' s' g x.0 b g' t' (u tt) (w.1 tt)
-            (subst (λ (m : Meaning). AgreeBelow n f m g (means x.0)) (sym r.1)
-            (subst (λ (m : Meaning). AgreeBelow n f (with_cell (means s) q i v) g m) (sym x.1)
-            (rows_alike q i v f (means s) g (means t) w.0 e))) r.2 x.2 in
+        (subst (λ (m : Meaning). AgreeBelow n f m g (means x.0)) (sym r.1)
+        (subst (λ (m : Meaning). AgreeBelow n f (with_cell (means s) q i v) g m) (sym x.1)
+        (rows_alike q i v f (means s) g (means t) w.0 e))) r.2 x.2 in
         (y.0, λ z. y.1 (z.1 tt))
     alike L (act (send m) k) f s o f' s' g t b g' t' u w e r x =
         (by (sent_is literals means may s r.1 m r.0 r.2) (sent_is literals means may t x.1 m x.0 x.2), λ z. absurd z.0)
@@ -157,9 +157,9 @@ module _ (literals : List ℕ) (n : Counts) where
     alike L (act a k) f s o f' s' g t b g' t' u w e r x =
         let v = answer_of literals a f (means s) in
         let y = alike L (k v) (frame_after a f) s o f' s' (frame_after a g) t b g' t' (u v) (w.1 v)
-            (frames_alike a f (means s) g (means t) w.0 e) r
-            (subst (λ (z : Answer a). Exec literals means may (k z) (frame_after a g) t b g' t')
-            (answers_alike a f (means s) g (means t) w.0 e) x) in
+        (frames_alike a f (means s) g (means t) w.0 e) r
+        (subst (λ (z : Answer a). Exec literals means may (k z) (frame_after a g) t b g' t')
+        (answers_alike a f (means s) g (means t) w.0 e) x) in
         (y.0, λ z. y.1 (z.1 v))
     alike L (done (comes_to q)) f s o f' s' g t b g' t' u w e r x = (
       x.0 ∙ sym r.0,

@@ -48,7 +48,7 @@ module _ (literals : List ℕ) {S : Type 0} (means : S → Meaning) (may : S →
     pub send_told : (super : Bool) (selector n : ℕ)
         → Exec literals means may (sending c i next h super selector n) f s o f' s'
         → (λ (m : Sent). Told m s o (Delivered m (λ v. set f (c.base + (h - n - 1)) v)))
-          (message super selector (get_or f (c.base + (h - n - 1)) Nil) (take n (drop (c.base + (h - n)) f)))
+        (message super selector (get_or f (c.base + (h - n - 1)) Nil) (take n (drop (c.base + (h - n)) f)))
     send_told super selector n x =
         let m = message super selector (get_or f (c.base + (h - n - 1)) Nil) (take n (drop (c.base + (h - n)) f)) in
         sent_told m (λ v. act (write_cell (c.base + (h - n - 1)) v) (λ _. continue_at next (h - n))) _
@@ -58,14 +58,17 @@ module _ (literals : List ℕ) {S : Type 0} (means : S → Meaning) (may : S →
     pub branch_told : (when : Bool) (p : ℕ) (v : Value)
         → Exec literals means may (branching c i next h when p v) f s o f' s'
         → (((v ≡ True) ⊎ (v ≡ False)) × Continues o × (f' ≡ f) × (s' ≡ s))
-          ⊎ ((v ≡ True → ⊥) × (v ≡ False → ⊥)
-          × (λ (m : Sent). Told m s o (Delivered m (λ _. f))) (message false must_be_boolean v []))
+        ⊎ ((v ≡ True → ⊥) × (v ≡ False → ⊥)
+        × (λ (m : Sent). Told m s o (Delivered m (λ _. f))) (message false must_be_boolean v []))
     branch_told when p True x = inl (inl refl, (_, _, x.0), x.1, x.2)
     branch_told when p False x = inl (inr refl, (_, _, x.0), x.1, x.2)
     branch_told when p v x =
-        inr ((λ e. absurd cc), (λ e. absurd cc),
-        sent_told _ (λ _. continue_at p (h - 1)) _ f s o f' s'
-        (λ w t y z. ((p, h - 1, z.0), (w, subst (λ (u : S). may s (message false must_be_boolean v []) w u) (sym z.2) y, z.1))) x)
+        inr (
+          (λ e. absurd cc),
+          (λ e. absurd cc),
+          sent_told _ (λ _. continue_at p (h - 1)) _ f s o f' s'
+              (λ w t y z. ((p, h - 1, z.0), (w, subst (λ (u : S). may s (message false must_be_boolean v []) w u) (sym z.2) y, z.1))) x,
+        )
 
     -- a closure stops only where there is no block
     pub close_told : (v : Value) (t : ℕ)
