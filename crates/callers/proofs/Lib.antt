@@ -1,4 +1,5 @@
 pub mod JudgingVerdicts
+pub mod Keeping
 pub mod Leaning
 pub mod Starting
 pub mod Staying

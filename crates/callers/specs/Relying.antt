@@ -1,9 +1,9 @@
 -- What callers of a step can rely on.
-use Rattle.std.specs.Prelude.{◌≡◌, ◌≢◌, ◌↔◌, ℕ, ◌+◌, ◌-◌, ◌*◌, ◌<◌, ◌≤◌, true, false, List, length, take, Some, None, Ok, Err, IsOkAnd, Option, Result, slice_index_or}
+use Rattle.std.specs.Prelude.{[], ◌∷◌, ◌++◌, ◌≡◌, ◌≢◌, ◌↔◌, ℕ, ◌+◌, ◌-◌, ◌*◌, ◌<◌, ◌≤◌, true, false, List, length, take, Some, None, Ok, Err, IsOkAnd, Option, Result, slice_index_or}
 use Rattle.values.specs.declared.faults.Fault.{Fault}
 use Rattle.values.specs.declared.kinds.Value.{Value}
 use Rattle.values.specs.declared.kinds.Value.TheVariants.{Nil}
-use Rattle.hosts.specs.Meaning.{Meaning, Sent, with_cell}
+use Rattle.hosts.specs.Meaning.{Meaning, Sent, Like, with_cell}
 use Rattle.hosts.specs.declared.rows.Row.{Row}
 use Rattle.parcels.specs.Instructions.{InstructionAt}
 use Rattle.parcels.specs.Opcodes.{effect_of, after}
@@ -95,3 +95,15 @@ module _ {S : Type 0} (means : S → Meaning) (may : S → Sent → Value → S 
   Explained s run f r f' s' =
       Reached s run → run.state ≡ Live → frame_cells run.parts ≤ length f
       → IsOkAnd r (λ made. MadeFor s run f made f' s')
+
+  -- every history of the host goes on, with one run more, which is gone
+  abbrev pub GoesOn : S → S → Type 0
+  GoesOn s s' =
+      (s₀ : S) (rs : HeldRuns) → History means may s₀ s rs
+      → History means may s₀ s' (rs ++ (None ∷ []))
+
+  -- whoever handed the host over finds the receiver, the yes or no to each message, the counts and
+  -- the marks as they were
+  abbrev pub StaysAlike : S → S → Type 0
+  StaysAlike s s' =
+      (s₀ : S) (rs : HeldRuns) → History means may s₀ s rs → Like (means s₀) (means s')

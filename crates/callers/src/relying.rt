@@ -2,7 +2,7 @@
 ghost use Rattle.std.specs.Prelude.{◌≡◌};
 ghost use Rattle.semantics.specs.Steps.{CallAnswer, Step};
 ghost use Rattle.engine.specs.View.{view};
-ghost use Rattle.callers.specs.Relying.{called, Reached, SheetStays, Regardless, Measured, Explained, SeenRight};
+ghost use Rattle.callers.specs.Relying.{called, Reached, SheetStays, Regardless, Measured, Explained, GoesOn, StaysAlike, SeenRight};
 
 use engine::Run;
 use hosts::Host;
@@ -83,4 +83,22 @@ pub fn step_explained<H: Host>(
         State::Stopped(stop) => Ok(Some(stop)),
         State::Live | State::Ended { .. } => Ok(None),
     }
+}
+
+/// Opens an untrusted parcel without arguments in a new run, makes one step, and collects the run.
+/// It answers the value that the run ended with: nil if it goes on, stopped or was not opened.
+pub fn open_step_collect<H: Host>(
+    host: &mut H,
+    parcel: &[u8],
+    frame: &mut [Value],
+    heights: &mut [u8],
+    waiting: &mut [u16],
+) -> Value
+    ensures goes_on { GoesOn H.means H.may host.old host.new }
+    ensures alike { StaysAlike H.means H.may host.old host.new }
+{
+    let mut run = Run::empty();
+    let _ = run.open(host, parcel, false, &[], frame, heights, waiting);
+    let _ = run.step(host, frame);
+    run.collect(host).1
 }
