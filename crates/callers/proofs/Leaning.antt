@@ -11,7 +11,7 @@ use Rattle.values.specs.declared.kinds.Value.TheVariants.{Nil}
 use Rattle.hosts.specs.Meaning.{Meaning, Sent, row_of}
 use Rattle.hosts.specs.declared.rows.Row.{Row}
 use Rattle.hosts.specs.declared.rows.Row.TheVariants.{Variables, Bindings}
-use Rattle.parcels.specs.Opcodes.{operation_of, effect_of, after}
+use Rattle.parcels.specs.Opcodes.{operation_of, effect_of}
 use Rattle.parcels.specs.Instructions.{InstructionAt}
 use Rattle.parcels.specs.Reading.{starts_at}
 use Rattle.parcels.specs.declared.opcodes.Operation.{Operation}
@@ -20,11 +20,11 @@ use Rattle.soundness.specs.Paths.{Path}
 use Rattle.soundness.proofs.Transfers.{start_even}
 use Rattle.soundness.proofs.Orders.{first_none, same_read}
 use Rattle.semantics.specs.Properties.{row_count, AgreeBelow}
-use Rattle.semantics.specs.Steps.{RunView, CallAnswer, StepUnless, Step, step_tests, has_counts, is_live, frame_cells, working_base}
+use Rattle.semantics.specs.Steps.{RunView, CallAnswer, StepUnless, Step, step_tests, is_live, frame_cells, working_base}
 use Rattle.semantics.specs.declared.states.State.{State}
 use Rattle.semantics.specs.declared.states.State.TheVariants.{Live, Ended, Stopped}
 use Rattle.semantics.specs.declared.states.Stop.{Stop}
-use Rattle.safety.specs.Histories.{counts_of, ExtendsHistory, WellPlaced, Progress, SameWithin, Sends, EveryHistoryIsSafe}
+use Rattle.safety.specs.Histories.{counts_of, ExtendsHistory, WellPlaced, Progress, SameWithin, EveryHistoryIsSafe}
 use Rattle.safety.proofs.Safety.{held_length}
 use Rattle.callers.specs.Relying.{Reached, SheetStays, Regardless, Measured, MadeFor, Explained, SeenRight}
 
@@ -95,14 +95,14 @@ module _ {S : Type 0} (means : S → Meaning) (may : S → Sent → Value → S 
 
   module _ (safe : EveryHistoryIsSafe means may) (s s' : S) (run run' : RunView) where
     placed : Reached means may s run → run.state ≡ Live → WellPlaced run
-    placed x live = (safe x.0 s x.1 x.3).well_placed x.2 run x.4 live
+    placed x live = (safe x.0 x.1 s x.2 x.4).well_placed x.3 run x.5 live
 
     -- what is seen of a run that a call led to
     pub seen_right : ExtendsHistory means may s run s' (Some run') → Reached means may s run → run'.state ≡ Live
         → SeenRight run' (Some (record { pair = run'.place / 2; height = run'.height }))
     seen_right on x live =
-        let held = get_or-set_same x.1 x.2 (Some run') None (held_length x.1 x.2 run x.4) in
-        let here = (safe x.0 s' _ (on x.0 x.1 x.2 x.3 x.4)).well_placed x.2 run' held live in
+        let held = get_or-set_same x.2 x.3 (Some run') None (held_length x.2 x.3 run x.5) in
+        let here = (safe x.0 x.1 s' _ (on x.0 x.1 x.2 x.3 x.4 x.5)).well_placed x.3 run' held live in
         let even = start_even run'.parts.code run'.place here.starts in
         let whole : 2 * (run'.place / 2) ≡ run'.place = omega (arith, even) in (
           subst (λ (q : ℕ). starts_at run'.parts.code q ≡ true) (sym whole) here.starts,
@@ -113,7 +113,7 @@ module _ {S : Type 0} (means : S → Meaning) (may : S → Sent → Value → S 
     module _ (f f' : List Value) (a : CallAnswer) (st : Step means may run f s a run' f' s') where
       came : Reached means may s run → Unrefused run f s
           → Progress means may run f s a run' f' s' × SameWithin means may run f s run' f' s'
-      came x u = (safe x.0 s x.1 x.3).progress x.2 run x.4 u.live f f' a run' s' u.long st
+      came x u = (safe x.0 x.1 s x.2 x.4).progress x.3 run x.5 u.live f f' a run' s' u.long st
 
       pub sheet_stays : SheetStays means may s run f f'
       sheet_stays = record { behind = behind; below = below }
@@ -182,7 +182,7 @@ module _ {S : Type 0} (means : S → Meaning) (may : S → Sent → Value → S 
       -- a refusal is none that this caller meets
       pub not_refused : (t : Fault) → a ≡ Err t → (r : Result (Option Stop) Fault) → Explained means may s run f r f' s'
       not_refused t e r x live long =
-          let ok = ((safe x.0 s x.1 x.3).progress x.2 run x.4 live f f' a run' s' long st).0.unrefused in absurd cc
+          let ok = ((safe x.0 x.1 s x.2 x.4).progress x.3 run x.5 live f f' a run' s' long st).0.unrefused in absurd cc
 
       pub explained : (made : Option Stop) → made ≡ made_in run'.state → Explained means may s run f (Ok made) f' s'
       explained made e x live long =
@@ -195,4 +195,4 @@ module _ {S : Type 0} (means : S → Meaning) (may : S → Sent → Value → S 
           })
         where
           next : Progress means may run f s a run' f' s'
-          next = ((safe x.0 s x.1 x.3).progress x.2 run x.4 live f f' a run' s' long st).0
+          next = ((safe x.0 x.1 s x.2 x.4).progress x.3 run x.5 live f f' a run' s' long st).0

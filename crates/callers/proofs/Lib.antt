@@ -3,3 +3,4 @@ pub mod Keeping
 pub mod Leaning
 pub mod Starting
 pub mod Staying
+mod Exactness

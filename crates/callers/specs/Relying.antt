@@ -1,5 +1,5 @@
 -- What callers of a step can rely on.
-use Rattle.std.specs.Prelude.{[], ◌∷◌, ◌++◌, ◌≡◌, ◌≢◌, ◌↔◌, ℕ, ◌+◌, ◌-◌, ◌*◌, ◌<◌, ◌≤◌, true, false, List, length, take, Some, None, Ok, Err, IsOkAnd, Option, Result, slice_index_or}
+use Rattle.std.specs.Prelude.{[], ◌∷◌, ◌++◌, ◌≡◌, ◌≢◌, ◌↔◌, ℕ, ◌+◌, ◌-◌, ◌*◌, ◌<◌, ◌≤◌, true, false, Bool, List, length, take, Some, None, Ok, Err, IsOkAnd, Option, Result, slice_index_or, slice_set}
 use Rattle.values.specs.declared.faults.Fault.{Fault}
 use Rattle.values.specs.declared.kinds.Value.{Value}
 use Rattle.values.specs.declared.kinds.Value.TheVariants.{Nil}
@@ -33,9 +33,11 @@ called (Ok x) = Ok tt
 called (Err x) = Err x
 
 module _ {S : Type 0} (means : S → Meaning) (may : S → Sent → Value → S → Type 0) where
-  -- some list of calls led to the host s and the run
+  -- some history, exact or not, led to the host s and the run
   abbrev pub Reached : S → RunView → Type 0
-  Reached s run = (s₀ : S) × (rs : HeldRuns) × (k : ℕ) × History means may s₀ s rs × Holds rs k run
+  Reached s run =
+      (exact : Bool) × (s₀ : S) × (rs : HeldRuns) × (k : ℕ)
+      × History means may exact s₀ s rs × Holds rs k run
 
   -- a live run's step leaves the cells behind those that the run counts, and the working cells
   -- below those that its instruction takes; a refused step leaves all
@@ -99,11 +101,23 @@ module _ {S : Type 0} (means : S → Meaning) (may : S → Sent → Value → S 
   -- every history of the host goes on, with one run more, which is gone
   abbrev pub GoesOn : S → S → Type 0
   GoesOn s s' =
-      (s₀ : S) (rs : HeldRuns) → History means may s₀ s rs
-      → History means may s₀ s' (rs ++ (None ∷ []))
+      (exact : Bool) (s₀ : S) (rs : HeldRuns) → History means may exact s₀ s rs
+      → History means may exact s₀ s' (rs ++ (None ∷ []))
 
   -- whoever handed the host over finds the receiver, the yes or no to each message, the counts and
   -- the marks as they were
   abbrev pub StaysAlike : S → S → Type 0
   StaysAlike s s' =
-      (s₀ : S) (rs : HeldRuns) → History means may s₀ s rs → Like (means s₀) (means s')
+      (exact : Bool) (s₀ : S) (rs : HeldRuns) → History means may exact s₀ s rs
+      → Like (means s₀) (means s')
+
+  -- every history that led to a host that means the same goes on by the step, and is not exact then
+  abbrev pub GoesOnInPlace : S → RunView → S → RunView → Type 0
+  GoesOnInPlace s run s' run' =
+      (exact : Bool) (s₀ t : S) (rs : HeldRuns) (k : ℕ) → means t ≡ means s
+      → History means may exact s₀ t rs → Holds rs k run
+      → History means may false s₀ s' (slice_set rs k (Some run'))
+
+  -- an exact history in which no run was taken yet has left the host itself
+  abbrev pub LeavesUntouched : Type 0
+  LeavesUntouched = (s₀ s : S) → History means may true s₀ s [] → s ≡ s₀

@@ -11,5 +11,6 @@ pub use judging::{
     first_height, height_reached, hosts_agree, keeps_parts, refusal_of, refused_at, same_heights,
 };
 pub use relying::{
-    Seen, open_step_collect, step_and_look, step_beside_totals, step_explained, step_measured,
+    Seen, open_step_collect, step_and_look, step_beside_totals, step_explained, step_in_place,
+    step_measured,
 };

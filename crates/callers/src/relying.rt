@@ -2,7 +2,7 @@
 ghost use Rattle.std.specs.Prelude.{◌≡◌};
 ghost use Rattle.semantics.specs.Steps.{CallAnswer, Step};
 ghost use Rattle.engine.specs.View.{view};
-ghost use Rattle.callers.specs.Relying.{called, Reached, SheetStays, Regardless, Measured, Explained, GoesOn, StaysAlike, SeenRight};
+ghost use Rattle.callers.specs.Relying.{called, Reached, SheetStays, Regardless, Measured, Explained, GoesOn, GoesOnInPlace, LeavesUntouched, StaysAlike, SeenRight};
 
 use engine::Run;
 use hosts::Host;
@@ -83,6 +83,22 @@ pub fn step_explained<H: Host>(
         State::Stopped(stop) => Ok(Some(stop)),
         State::Live | State::Ended { .. } => Ok(None),
     }
+}
+
+/// Steps a run on a host that stands in for the one that the earlier calls were made on, and means
+/// the same. It is refused as a step is.
+pub fn step_in_place<H: Host>(
+    run: &mut Run,
+    stand_in: &mut H,
+    frame: &mut [Value],
+) -> Result<(), Fault>
+    ensures steps { Step H.means H.may (view run.old) frame.old stand_in.old result (view run.new)
+        frame.new stand_in.new }
+    ensures goes_on { GoesOnInPlace H.means H.may stand_in.old (view run.old) stand_in.new
+        (view run.new) }
+    ensures untouched { LeavesUntouched H.means H.may }
+{
+    run.step(stand_in, frame)
 }
 
 /// Opens an untrusted parcel without arguments in a new run, makes one step, and collects the run.

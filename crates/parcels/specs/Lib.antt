@@ -4,3 +4,4 @@ pub mod Reading
 pub mod Opcodes
 pub mod Parts
 pub mod Instructions
+pub mod Numbers

@@ -1,5 +1,6 @@
 // A whole parcel, taken apart where it lies.
 ghost use Rattle.std.specs.Prelude.{◌≡◌, ◌≤◌, length, IfOk};
+ghost use Rattle.parcels.specs.Numbers.{FormatNumbers};
 ghost use Rattle.parcels.specs.Parts.{parts_of, as_parts};
 ghost use Rattle.parcels.specs.declared.layout.TheConstants.{MAX_CODE, MAX_SLOTS};
 
@@ -21,6 +22,7 @@ impl<'a> Parcel<'a> {
         ensures answer { as_parts result ≡ parts_of bytes.now }
         ensures code { IfOk result (λ p. length p.code.now ≤ MAX_CODE) }
         ensures slots { IfOk result (λ p. p.layout.slot_count ≤ MAX_SLOTS) }
+        ensures numbers { FormatNumbers }
     {
         let layout = Layout::read(bytes)?;
         let code_start = HEADER_BYTES + LITERAL_BYTES * layout.literal_count as usize;

@@ -15,7 +15,7 @@ use Rattle.hosts.proofs.Cells.{like_same, like_trans}
 use Rattle.semantics.specs.Steps.{RunView, CallAnswer, moved, StepUnless, Step, step_tests, frame_cells, next_script}
 use Rattle.semantics.proofs.Executing.{like}
 use Rattle.semantics.specs.Opening.{opened, opened_unless, opened_by, empty}
-use Rattle.safety.specs.Histories.{HeldRuns, Call, takes, opens, steps, History, new, called}
+use Rattle.safety.specs.Histories.{HeldRuns, Call, takes, opens, steps, History, new, called, altered}
 use Rattle.safety.proofs.Safety.{every_history_is_safe}
 use Rattle.planning.specs.Keeping.{StaysWithin, Led, LeadsOn, Going}
 use Rattle.planning.specs.declared.options.Plan.{Plan}
@@ -53,14 +53,15 @@ module _ {S : Type 0} (means : S → Meaning) (may : S → Sent → Value → S 
   like_call law call = like_same refl
 
   -- and over a history
-  alike : Lawful means may → {s₀ s : S} {rs : HeldRuns} → History means may s₀ s rs → Like (means s₀) (means s)
+  alike : Lawful means may → {exact : Bool} {s₀ s : S} {rs : HeldRuns} → History means may exact s₀ s rs → Like (means s₀) (means s)
   alike law new = like_same refl
   alike law (called past call) = like_trans (alike law past) (like_call law call)
+  alike law (altered x past e) = like_trans (alike law past) (like_same e)
 
   -- what was led to under a plan stays within it
   pub within : Lawful means may → (p : Plan) (s₀ s : S) (run : RunView) → Led means may p.trusted s₀ s run → StaysWithin p (means s₀) (means s)
   within law p s₀ s run l =
-      let safe = every_history_is_safe means may law s₀ s (Some run ∷ []) l.past in
+      let safe = every_history_is_safe means may law true s₀ s (Some run ∷ []) l.past in
       record {
         kept = λ e. safe.trusted (l.untrusted e);
         marks = (alike law l.past).marks;
@@ -80,7 +81,7 @@ module _ {S : Type 0} (means : S → Meaning) (may : S → Sent → Value → S 
   pub unrefused : Lawful means may
       → (run run' : RunView) (s s' : S) (f f' : List Value) (a : CallAnswer) → Going means may s run f → run.state ≡ Live → Step means may run f s a run' f' s' → a ≡ Ok tt
   unrefused law run run' s s' f f' a x l st =
-      ((every_history_is_safe means may law x.began s (Some run ∷ []) x.led.past).progress 0 run refl l f f' a run' s' x.long st).0.unrefused
+      ((every_history_is_safe means may law true x.began s (Some run ∷ []) x.led.past).progress 0 run refl l f f' a run' s' x.long st).0.unrefused
 
   -- and goes on after a step, with a frame that is as long
   pub goes_further : (run run' : RunView) (s s' : S) (f f' : List Value) (a : CallAnswer) → length f' ≡ length f → Going means may s run f → Step means may run f s a run' f' s' → Going means may s' run' f'

@@ -28,7 +28,7 @@ module _ {S : Type 0} (means : S → Meaning) (may : S → Sent → Value → S 
   -- calls on one run alone led from the host s₀ to the host s and the run; where t is false, no
   -- trusted parcel was opened
   pub record Led (t : Bool) (s₀ s : S) (run : RunView) : Type 0 where
-    pub past : History means may s₀ s (Some run ∷ [])
+    pub past : History means may true s₀ s (Some run ∷ [])
     pub untrusted : t ≡ false → Untrusted means may past
 
   -- what led to the host s and the run leads on to s' and run'

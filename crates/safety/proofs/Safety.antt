@@ -19,7 +19,7 @@ use Rattle.semantics.specs.declared.states.State.{State}
 use Rattle.semantics.specs.declared.states.State.TheVariants.{Live, Ended, Stopped}
 use Rattle.semantics.proofs.Executing.{like}
 use Rattle.semantics.specs.Opening.{Opened, open_tests, opened_unless, opened_by, opened, begun, empty}
-use Rattle.safety.specs.Histories.{HeldRuns, Holds, Call, takes, opens, steps, collects, History, new, called, OpensUntrusted, Untrusted, Safe, EveryHistoryIsSafe}
+use Rattle.safety.specs.Histories.{HeldRuns, Holds, Call, takes, opens, steps, collects, History, new, called, altered, OpensUntrusted, Untrusted, Safe, EveryHistoryIsSafe}
 use Rattle.safety.proofs.Readiness.{accepted_ready, accepted_open}
 use Rattle.safety.proofs.Stepping.{Sound, placed, made, still_sound, progress, same_within, keeps}
 
@@ -184,17 +184,24 @@ module _ {S : Type 0} (means : S → Meaning) (may : S → Sent → Value → S 
     cells = λ v. x.cells v.1;
   }
 
-  kept_up : {s₀ s : S} {rs : HeldRuns} (past : History means may s₀ s rs) → KeptUp (Untrusted means may past) s₀ s rs
+  kept_up : {exact : Bool} {s₀ s : S} {rs : HeldRuns} (past : History means may exact s₀ s rs) → KeptUp (Untrusted means may past) s₀ s rs
   kept_up {s₀} new = record {
     same = like_same refl;
     runs = λ k run e l. absurd (none-some run e);
     cells = λ u. kept_same (means s₀) (means s₀) refl;
   }
   kept_up (called past call) = kept_up_by call (kept_up past)
+  kept_up (altered {s} {s'} x past e) =
+      let y = kept_up past in
+      record {
+        same = like_trans y.same (like_same e);
+        runs = y.runs;
+        cells = λ u. kept_trans (y.cells u) (kept_same (means s) (means s') e);
+      }
 
-  safe_by : {s₀ s : S} {rs : HeldRuns} (past : History means may s₀ s rs)
-      → KeptUp (Untrusted means may past) s₀ s rs → Safe means may s₀ s rs past
-  safe_by {s₀} {s} past x = record {
+  safe_by : {exact : Bool} {s₀ s : S} {rs : HeldRuns} (past : History means may exact s₀ s rs)
+      → KeptUp (Untrusted means may past) s₀ s rs → Safe means may exact s₀ s rs past
+  safe_by {s₀ = s₀} {s = s} past x = record {
     well_placed = λ k run e l. placed (x.runs k run e l).2;
     progress = λ k run e l f f' a run' s' c st.
         let sound = (x.runs k run e l).2 in
@@ -213,4 +220,4 @@ module _ {S : Type 0} (means : S → Meaning) (may : S → Sent → Value → S 
   }
 
   pub every_history_is_safe : EveryHistoryIsSafe means may
-  every_history_is_safe s₀ s rs past = safe_by past (kept_up past)
+  every_history_is_safe exact s₀ s rs past = safe_by past (kept_up past)

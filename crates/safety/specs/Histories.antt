@@ -176,10 +176,15 @@ module _ {S : Type 0} (means : S → Meaning) (may : S → Sent → Value → S 
     collects : {s : S} {rs : HeldRuns} (k : ℕ) (run : RunView) → Holds rs k run
         → Call s rs s (slice_set rs k None)
 
-  -- a list of calls on a host that was handed over as s₀, and where it leads the host and the runs
-  pub data History (s₀ : S) : S → HeldRuns → Type 0 where
-    new : History s₀ s₀ []
-    called : {s s' : S} {rs rs' : HeldRuns} → History s₀ s rs → Call s rs s' rs' → History s₀ s' rs'
+  -- a list of calls on a host that was handed over as s₀, and where it leads the host and the runs;
+  -- only calls alter the host in an exact history, and in another its caller may alter it, too, as
+  -- long as it means the same
+  pub data History (exact : Bool) (s₀ : S) : S → HeldRuns → Type 0 where
+    new : History exact s₀ s₀ []
+    called : {s s' : S} {rs rs' : HeldRuns} → History exact s₀ s rs → Call s rs s' rs'
+        → History exact s₀ s' rs'
+    altered : {s s' : S} {rs : HeldRuns} → exact ≡ false → History exact s₀ s rs
+        → means s' ≡ means s → History exact s₀ s' rs
 
   -- if the call opened a parcel and was not refused, the parcel was untrusted
   abbrev pub OpensUntrusted : {s s' : S} {rs rs' : HeldRuns} → Call s rs s' rs' → Type 0
@@ -188,12 +193,14 @@ module _ {S : Type 0} (means : S → Meaning) (may : S → Sent → Value → S 
   OpensUntrusted _ = Unit {0}
 
   -- every parcel that was opened was untrusted
-  abbrev pub Untrusted : {s₀ s : S} {rs : HeldRuns} → History s₀ s rs → Type 0
+  abbrev pub Untrusted : {exact : Bool} {s₀ s : S} {rs : HeldRuns} → History exact s₀ s rs → Type 0
   Untrusted new = Unit {0}
   Untrusted (called past call) = OpensUntrusted call × Untrusted past
+  Untrusted (altered e past q) = Untrusted past
 
   -- what holds after a history
-  pub record Safe (s₀ s : S) (rs : HeldRuns) (past : History s₀ s rs) : Type 0 where
+  pub record Safe (exact : Bool) (s₀ s : S) (rs : HeldRuns) (past : History exact s₀ s rs)
+      : Type 0 where
     pub well_placed : (k : ℕ) (run : RunView) → Holds rs k run → run.state ≡ Live → WellPlaced run
     pub progress : (k : ℕ) (run : RunView) → Holds rs k run → run.state ≡ Live
         → (f f' : List Value) (a : CallAnswer) (run' : RunView) (s' : S)
@@ -206,11 +213,13 @@ module _ {S : Type 0} (means : S → Meaning) (may : S → Sent → Value → S 
 
   -- the theorem
   abbrev pub EveryHistoryIsSafe : Type 0
-  EveryHistoryIsSafe = (s₀ s : S) (rs : HeldRuns) (past : History s₀ s rs) → Safe s₀ s rs past
+  EveryHistoryIsSafe =
+      (exact : Bool) (s₀ s : S) (rs : HeldRuns) (past : History exact s₀ s rs)
+      → Safe exact s₀ s rs past
 
   -- a call that takes the host from s to s', and one of its runs to what is left of it, extends
   -- every history
   abbrev pub ExtendsHistory : S → RunView → S → Option RunView → Type 0
   ExtendsHistory s run s' left =
-      (s₀ : S) (rs : HeldRuns) (k : ℕ) → History s₀ s rs → Holds rs k run
-      → History s₀ s' (slice_set rs k left)
+      (exact : Bool) (s₀ : S) (rs : HeldRuns) (k : ℕ) → History exact s₀ s rs → Holds rs k run
+      → History exact s₀ s' (slice_set rs k left)

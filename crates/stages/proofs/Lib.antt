@@ -4,3 +4,4 @@ pub mod SweepSteps
 pub mod Greatest
 pub mod Worklist
 pub mod Whole
+mod Numbers

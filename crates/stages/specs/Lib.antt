@@ -4,3 +4,4 @@ pub mod Contexts
 pub mod Sweep
 pub mod Examination
 pub mod Check
+pub mod Numbers

@@ -3,6 +3,7 @@ ghost use Rattle.std.specs.Prelude.{◌≡◌, ◌*◌, ◌/◌, ◌≤◌, leng
 ghost use Rattle.hosts.specs.Meaning.{marks_of};
 ghost use Rattle.stages.specs.Contexts.{context_of, as_context};
 ghost use Rattle.stages.specs.Examination.{heights_or_fault};
+ghost use Rattle.stages.specs.Numbers.{CheckNumbers};
 ghost use Rattle.stages.specs.Check.{question_on, pairs, heights_found, greatest_or_fault, heights_of, context_admitted, checked};
 
 use crate::contexts::Context;
@@ -102,6 +103,7 @@ pub fn pass_stages<H: Host>(
         (question_on (H.means host.now) trusted bytes.now heights.old waiting.old)).heights }
     ensures waiting { waiting.new ≡ (checked
         (question_on (H.means host.now) trusted bytes.now heights.old waiting.old)).waiting }
+    ensures numbers { CheckNumbers }
 {
     let context = Context::admit(host, bytes, trusted, heights.len(), waiting.len())?;
     let pairs = context.parcel.code.len() / PAIR_BYTES;

@@ -7,3 +7,4 @@ pub mod Laws
 pub mod Counts
 pub mod Accepting
 pub mod RowsLemmas
+pub mod Numbers

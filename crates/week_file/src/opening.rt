@@ -3,6 +3,7 @@ ghost use Rattle.std.specs.Prelude.{◌≡◌, ◌-◌, ◌/◌, ◌≤◌, leng
 ghost use Rattle.values.specs.Order.{first, unless};
 ghost use Rattle.week_file.specs.Cells.{breaks_rules};
 ghost use Rattle.week_file.specs.Files.{cell_tests, why_refused, judged_header};
+ghost use Rattle.week_file.specs.Numbers.{FileNumbers};
 
 use crate::cells::{CELL_BYTES, breaks_rules};
 use crate::headers::{FileHeader, HEADER_BYTES};
@@ -57,7 +58,8 @@ pub(crate) fn checked_header(bytes: &[u8]) -> Result<FileHeader, Fault>
 /// - 34 where a cell begins: it breaks the rules of a cell, and is the first that does. Its mark is
 ///   neither 0 nor 1, its kind is above 6, or its number field does not suit its kind.
 pub fn check_file(bytes: &[u8]) -> Result<(), Fault>
-    ensures { result ≡ unless (why_refused bytes.now) tt }
+    ensures answer { result ≡ unless (why_refused bytes.now) tt }
+    ensures numbers { FileNumbers }
 {
     checked_header(bytes)?;
     Ok(())

@@ -1,6 +1,7 @@
 use Rattle.std.proofs.Common.{◌/◌, List, ℕ, ◌++◌, length, drop, ap, ◌∙◌}
 use Rattle.stages.specs.Check.{question_on, Checked}
 use Rattle.stages.proofs.Exits.{passed_on}
+use Rattle.stages.proofs.Numbers.{check_numbers}
 use Rattle.stages.proofs.Whole.{by_context}
 use Rattle.stages.proofs.checking.pass_stages.Goals as goal
 
@@ -14,6 +15,7 @@ returns-in_err-context g c =
       verdict = passed_on _ _ _ c.from_residual.ensures.1 (ap (λ (k : Checked). k.verdict) e);
       heights = ap (λ (k : Checked). k.heights) e;
       waiting = ap (λ (k : Checked). k.waiting) e;
+      numbers = check_numbers;
     }
 
 pub returns : goal.returns
@@ -31,4 +33,5 @@ returns g c =
       waiting =
           ap (λ (l : List ℕ). l ++ drop n ws) c.conclude.ensures.waiting
           ∙ ap (λ (k : Checked). k.waiting) e;
+      numbers = check_numbers;
     }

@@ -27,8 +27,8 @@ extends : {S : Type 0} (means : S → Meaning) (may : S → Sent → Value → S
     (b hs ws : List ℕ) (args f : List Value) (run run' : RunView)
     → (opened (question_on (means s) t b hs ws) args f run).run ≡ run'
     → ExtendsHistory means may s run s (Some run')
-extends means may s t b hs ws args f run run' e = λ s₀ rs k past held.
-    subst (λ (r : RunView). History means may s₀ s (set rs k (Some r))) e
+extends means may s t b hs ws args f run run' e = λ exact s₀ rs k past held.
+    subst (λ (r : RunView). History means may exact s₀ s (set rs k (Some r))) e
     (called past (opens k run held t b hs ws args f))
 
 -- what opening is

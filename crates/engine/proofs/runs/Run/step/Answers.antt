@@ -5,7 +5,7 @@ use Rattle.engine.proofs.runs.Run.step.Goals as goal
 
 pub returns-clause-extends : goal.returns-clause-extends
 returns-clause-extends g c =
-    λ s₀ rs k past held. called past (steps k (view c.args.self.now) (view c.step_once.new.self) held
+    λ exact s₀ rs k past held. called past (steps k (view c.args.self.now) (view c.step_once.new.self) held
     c.step_once.new.host c.args.frame.now c.step_once.new.frame c.step_once.result c.step_once.ensures)
 
 pub returns-clause-safe : goal.returns-clause-safe
