@@ -15,6 +15,8 @@ use Rattle.parcels.specs.Opcodes.{operation_of, effect_of}
 use Rattle.parcels.specs.Instructions.{InstructionAt}
 use Rattle.parcels.specs.Reading.{starts_at}
 use Rattle.parcels.specs.declared.opcodes.Operation.{Operation}
+use Rattle.parcels.specs.declared.opcodes.Operation.TheVariants.{Store, Jump, Branch, Pop, End, Line}
+use Rattle.parcels.specs.declared.opcodes.Target.TheVariants as target
 use Rattle.parcels.specs.declared.reading.Instruction.{Instruction}
 use Rattle.soundness.specs.Paths.{Path}
 use Rattle.soundness.proofs.Transfers.{start_even}
@@ -24,9 +26,9 @@ use Rattle.semantics.specs.Steps.{RunView, CallAnswer, StepUnless, Step, step_te
 use Rattle.semantics.specs.declared.states.State.{State}
 use Rattle.semantics.specs.declared.states.State.TheVariants.{Live, Ended, Stopped}
 use Rattle.semantics.specs.declared.states.Stop.{Stop}
-use Rattle.safety.specs.Histories.{counts_of, ExtendsHistory, WellPlaced, Progress, SameWithin, EveryHistoryIsSafe}
+use Rattle.safety.specs.Histories.{counts_of, ExtendsHistory, WellPlaced, Progress, SameWithin, EveryHistoryIsSafe, WritesCell}
 use Rattle.safety.proofs.Safety.{held_length}
-use Rattle.callers.specs.Relying.{Reached, SheetStays, Regardless, Measured, MadeFor, Explained, SeenRight}
+use Rattle.callers.specs.Relying.{WritesNone, Reached, SheetStays, Regardless, Measured, MadeFor, Explained, SeenRight}
 
 live_of : (st : State) → not (is_live st) ≡ false → st ≡ Live
 live_of Live e = refl
@@ -116,8 +118,31 @@ module _ {S : Type 0} (means : S → Meaning) (may : S → Sent → Value → S 
       came x u = (safe x.0 x.1 s x.2 x.4).progress x.3 run x.5 u.live f f' a run' s' u.long st
 
       pub sheet_stays : SheetStays means may s run f f'
-      sheet_stays = record { behind = behind; below = below }
+      sheet_stays = record { behind = behind; below = below; unwritten = elsewhere; whole = whole }
         where
+          none : (i : Instruction) (o : Operation) (n : ℕ) → WritesNone o → WritesCell (working_base run.parts) run.height i o n → ⊥
+          none i Pop n w e = e
+          none i (Jump direction) n w e = e
+          none i (Branch when) n w e = e
+          none i Line n w e = e
+          none i (End how) n w e = e
+          none i (Store target.Variable) n w e = e
+          none i o n w e = absurd w
+
+          elsewhere : Reached means may s run → (i : Instruction) (o : Operation)
+              → InstructionAt run.parts.code run.place i o
+              → (n : ℕ) → (WritesCell (working_base run.parts) run.height i o n → ⊥)
+              → slice_index_or f' n Nil ≡ slice_index_or f n Nil
+          elsewhere x i o at n other = elim (parted run run' f f' s s' a st) [
+            | inl r ↦ ap (λ (g : List Value). slice_index_or g n Nil) r.3
+            | inr u ↦ (came x u.1).0.unwritten at n other
+          ]
+
+          whole : Reached means may s run → (i : Instruction) (o : Operation)
+              → InstructionAt run.parts.code run.place i o → WritesNone o
+              → (n : ℕ) → slice_index_or f' n Nil ≡ slice_index_or f n Nil
+          whole x i o at w n = elsewhere x i o at n (none i o n w)
+
           behind : Reached means may s run → (n : ℕ) → frame_cells run.parts ≤ n
               → slice_index_or f' n Nil ≡ slice_index_or f n Nil
           behind x n past = elim (parted run run' f f' s s' a st) [

@@ -8,6 +8,8 @@ use Rattle.hosts.specs.declared.rows.Row.{Row}
 use Rattle.parcels.specs.Instructions.{InstructionAt}
 use Rattle.parcels.specs.Opcodes.{effect_of, after}
 use Rattle.parcels.specs.declared.opcodes.Operation.{Operation}
+use Rattle.parcels.specs.declared.opcodes.Operation.TheVariants.{Store, Jump, Branch, Pop, End, Line}
+use Rattle.parcels.specs.declared.opcodes.Target.TheVariants as target
 use Rattle.parcels.specs.declared.reading.Instruction.{Instruction}
 use Rattle.parcels.specs.Reading.{starts_at}
 use Rattle.soundness.specs.Paths.{Path}
@@ -15,7 +17,7 @@ use Rattle.semantics.specs.Steps.{RunView, CallAnswer, Step, frame_cells, workin
 use Rattle.semantics.specs.declared.states.State.TheVariants.{Live}
 use Rattle.semantics.specs.declared.states.Stop.{Stop}
 use Rattle.semantics.specs.declared.states.Stop.TheVariants.{NotUnderstood, NoBlock}
-use Rattle.safety.specs.Histories.{HeldRuns, Holds, History, top_of, with_answer, Sends, Stores, MeetsNoBlock}
+use Rattle.safety.specs.Histories.{HeldRuns, Holds, History, top_of, with_answer, Sends, Stores, WritesCell, MeetsNoBlock}
 use Rattle.callers.specs.declared.relying.Seen.{Seen}
 
 -- what a caller sees of a live run is the only height of the paths to its place, where an
@@ -26,6 +28,17 @@ SeenRight run (Some x) =
     (starts_at run.parts.code (2 * x.pair) ≡ true)
     × Path run.parts.code (2 * x.pair) x.height
     × ((h : ℕ) → Path run.parts.code (2 * x.pair) h → h ≡ x.height)
+
+-- an instruction that writes no cell of a frame: a drop, a jump, a line number, a return, or a
+-- store to a variable
+abbrev pub WritesNone : Operation → Type 0
+WritesNone Pop = Unit {0}
+WritesNone (Jump direction) = Unit {0}
+WritesNone (Branch when) = Unit {0}
+WritesNone Line = Unit {0}
+WritesNone (End how) = Unit {0}
+WritesNone (Store target.Variable) = Unit {0}
+WritesNone _ = ⊥
 
 -- what a step came to whose caller answers more
 abbrev pub called : {X : Type 0} → Result X Fault → CallAnswer
@@ -39,8 +52,9 @@ module _ {S : Type 0} (means : S → Meaning) (may : S → Sent → Value → S 
       (exact : Bool) × (s₀ : S) × (rs : HeldRuns) × (k : ℕ)
       × History means may exact s₀ s rs × Holds rs k run
 
-  -- a live run's step leaves the cells behind those that the run counts, and the working cells
-  -- below those that its instruction takes; a refused step leaves all
+  -- a live run's step leaves the cells behind those that the run counts, the working cells below
+  -- those that its instruction takes, every cell that its instruction does not write, and, where
+  -- that writes none, the whole frame; a refused step leaves all
   pub record SheetStays (s : S) (run : RunView) (f f' : List Value) : Type 0 where
     pub behind : Reached s run → (n : ℕ) → frame_cells run.parts ≤ n
         → slice_index_or f' n Nil ≡ slice_index_or f n Nil
@@ -49,6 +63,13 @@ module _ {S : Type 0} (means : S → Meaning) (may : S → Sent → Value → S 
         → (n : ℕ) → working_base run.parts ≤ n
         → n < working_base run.parts + (run.height - (effect_of o i).takes)
         → slice_index_or f' n Nil ≡ slice_index_or f n Nil
+    pub unwritten : Reached s run → (i : Instruction) (o : Operation)
+        → InstructionAt run.parts.code run.place i o
+        → (n : ℕ) → (WritesCell (working_base run.parts) run.height i o n → ⊥)
+        → slice_index_or f' n Nil ≡ slice_index_or f n Nil
+    pub whole : Reached s run → (i : Instruction) (o : Operation)
+        → InstructionAt run.parts.code run.place i o → WritesNone o
+        → (n : ℕ) → slice_index_or f' n Nil ≡ slice_index_or f n Nil
 
   -- whatever stands behind the counted cells plays no part: a step of the same run on the same host
   -- with another sheet that has the same counted cells comes to the same run, and writes the same

@@ -28,8 +28,9 @@ use Rattle.semantics.specs.Scripts.{Access, read_cell, read_cells, write_cell, r
 use Rattle.semantics.specs.Execution.{Everywhere}
 use Rattle.semantics.specs.Steps.{code_context_of, working_base, frame_cells, script_at}
 use Rattle.semantics.specs.Properties.{Counts, row_count, InBounds, Stack, InUse, NotStuck}
-use Rattle.semantics.proofs.Executing.{WritesOpen, NoMessage, LeavesHost, everywhere_map}
+use Rattle.semantics.proofs.Executing.{in_frame, Spares, WritesOpen, NoMessage, LeavesHost, everywhere_map}
 use Rattle.semantics.proofs.Operations.{chosen, closed, replied}
+use Rattle.safety.specs.Histories.{WritesCell}
 
 -- a literal that is there has a number below the count
 pub literal_there : (ls : List ℕ) (n k : ℕ) (l : Literal) → length ls ≡ 6 * n → literal ls k ≡ Some l → k < n
@@ -95,6 +96,8 @@ module _ (p : Parts) (q h : ℕ) (i : Instruction) where
     Permitted o (read_row r k) = k < row_count counts_at r
     Permitted o (write_row r k v) = (k < row_count counts_at r) × StoresTo p.literals i.argument o r k
     Permitted o (send m) = MaySend o
+    Permitted o (write_cell k v) =
+        InUse (stack_at o) (write_cell k v) × WritesCell (working_base p) h i o k
     Permitted o a = InUse (stack_at o) a
 
     abbrev pub Permits : Operation → Script → Type 0
@@ -108,20 +111,21 @@ module _ (p : Parts) (q h : ℕ) (i : Instruction) where
       pushes : (o : Operation) (v : Value)
           → working_base p + (h - (effect_of o i).takes) ≤ working_base p + h
           → h < after (effect_of o i) h
+          → WritesCell (working_base p) h i o (working_base p + h)
           → Permits o (pushing (code_context_of p) i next h v)
-      pushes o v below room = (inr (below, inr (omega (arith, room))), λ _. tt)
+      pushes o v below room own = ((inr (below, inr (omega (arith, room))), own), λ _. tt)
 
       sends : (o : Operation) (super : Bool) (n c : ℕ) → (effect_of o i).takes ≡ c + 1 → c + 1 ≤ h
-          → MaySend o
+          → MaySend o → WritesCell (working_base p) h i o (working_base p + (h - c - 1))
           → Permits o (sending (code_context_of p) i next h super n c)
-      sends o super n c t need may_send = (
+      sends o super n c t need may_send own = (
         omega (arith, need),
         λ r. (
           omega (arith, need),
           λ xs. (
             may_send,
             λ a.
-                replied (Permits o) (message super n r xs) a tt (λ v. (inr (omega (arith, need, t), inl (omega (arith, need))), λ _. tt)),
+                replied (Permits o) (message super n r xs) a tt (λ v. ((inr (omega (arith, need, t), inl (omega (arith, need))), own), λ _. tt)),
           ),
         ),
       )
@@ -150,16 +154,16 @@ module _ (p : Parts) (q h : ℕ) (i : Instruction) where
       pub permitted : (o : Operation) → OperandFits p variables i.argument o
           → LandingFits p.code next i.argument (flow_of o) → (effect_of o i).takes ≤ h
           → Permits o (script_at p q h i o)
-      permitted Send fit lands need = sends Send false i.opcode (arity_of i.opcode) refl need tt
+      permitted Send fit lands need = sends Send false i.opcode (arity_of i.opcode) refl need tt refl
       permitted (SendSelector s) fit lands need =
           let e = fit.1 in (
             literal_there p.literals p.layout.literal_count (i.argument / 256) (Selector fit.0 (i.argument % 256)) long e,
             there (Permits (SendSelector s)) _ (selector_of (literal p.literals (i.argument / 256))) fit.0 (ap selector_of e)
-                (sends (SendSelector s) s fit.0 (i.argument % 256) refl need tt),
+                (sends (SendSelector s) s fit.0 (i.argument % 256) refl need tt refl),
           )
       permitted (Push s) fit lands need =
-          sourced (Push s) s (pushing (code_context_of p) i next h) fit (λ v. pushes (Push s) v (omega arith) (omega arith))
-      permitted (Store target.Cell) fit lands need = (omega (arith, need), λ v. (inl fit, λ _. tt))
+          sourced (Push s) s (pushing (code_context_of p) i next h) fit (λ v. pushes (Push s) v (omega arith) (omega arith) refl)
+      permitted (Store target.Cell) fit lands need = (omega (arith, need), λ v. ((inl fit, refl), λ _. tt))
       permitted (Store target.Binding) fit lands need =
           let e = fit.1 in (
             literal_there p.literals p.layout.literal_count i.argument (Binding fit.0) long e,
@@ -168,7 +172,7 @@ module _ (p : Parts) (q h : ℕ) (i : Instruction) where
               λ v. (
                 (bound i.argument fit.0 e, e),
                 λ _.
-                    (inr (omega (arith, need), inl (omega (arith, need))), λ _. tt),
+                    ((inr (omega (arith, need), inl (omega (arith, need))), refl), λ _. tt),
               ),
             ),
           )
@@ -182,9 +186,9 @@ module _ (p : Parts) (q h : ℕ) (i : Instruction) where
                 (tt, λ a. replied (Permits (Branch w)) (message false must_be_boolean v []) a tt (λ x. tt)),
           )
       permitted Pop fit lands need = tt
-      permitted Duplicate fit lands need = (omega (arith, need), λ v. pushes Duplicate v (omega arith) (omega (arith, need)))
+      permitted Duplicate fit lands need = (omega (arith, need), λ v. pushes Duplicate v (omega arith) (omega (arith, need)) refl)
       permitted Close fit lands need =
-          (omega (arith, need), λ v. closed (Permits Close) v tt (λ w. (inr (omega (arith, need), inl (omega (arith, need))), λ _. tt)))
+          (omega (arith, need), λ v. closed (Permits Close) v tt (λ w. ((inr (omega (arith, need), inl (omega (arith, need))), refl), λ _. tt)))
       permitted (End e) fit lands need = (omega (arith, need), λ v. tt)
       permitted Line fit lands need = tt
 
@@ -194,10 +198,24 @@ module _ (p : Parts) (q h : ℕ) (i : Instruction) where
     in_use o (read_row r k) w = tt
     in_use o (write_row r k v) w = tt
     in_use o (send m) w = tt
+    in_use o (write_cell k v) w = w.0
     in_use o a w = w
 
     pub all_in_use : (o : Operation) (c : Script) → Permits o c → Everywhere p.literals (InUse (stack_at o)) NotStuck c
     all_in_use o = everywhere_map p.literals (Permitted o) (InUse (stack_at o)) NotStuck NotStuck (in_use o) (λ l x. x)
+
+    -- a cell that the operation does not write is written by no access
+    module _ (o : Operation) (j : ℕ) (other : WritesCell (working_base p) h i o j → ⊥) where
+      spares : (a : Access) → Permitted o a → Spares (in_frame j) a
+      spares (write_cell k v) w = λ e.
+          let same : k ≡ j = cc in
+          other (subst (λ (n : ℕ). WritesCell (working_base p) h i o n) same w.1)
+      spares (write_row r k v) w = λ e. absurd cc
+      spares (send m) w = tt
+      spares a w = tt
+
+      pub all_spare : (c : Script) → Permits o c → Everywhere p.literals (Spares (in_frame j)) (λ _. Unit {0}) c
+      all_spare = everywhere_map p.literals (Permitted o) (Spares (in_frame j)) NotStuck (λ _. Unit {0}) spares (λ l x. tt)
 
     -- where no message may be sent, none is
     module _ (o : Operation) (none : MaySend o → ⊥) where
@@ -224,7 +242,7 @@ module _ (p : Parts) (q h : ℕ) (i : Instruction) where
           → (a : Access) → Permitted o a → InBounds counts_at a
       in_bounds o room (read_cell k) w = omega (arith, w, fits, low)
       in_bounds o room (read_cells k n) w = omega (arith, w, fits, low)
-      in_bounds o room (write_cell k v) w = elim w [
+      in_bounds o room (write_cell k v) w = elim w.0 [
         | inl x ↦ omega (arith, x, fits)
         | inr x ↦ elim x.1 [ inl y ↦ omega (arith, y, fits, low) | inr y ↦ omega (arith, y, fits, room) ]
       ]

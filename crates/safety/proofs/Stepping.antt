@@ -35,8 +35,8 @@ use Rattle.semantics.proofs.Operations.{Lands, MayStop, leads_to, settles}
 use Rattle.semantics.proofs.Agreeing.{Alike, alike}
 use Rattle.semantics.proofs.Telling.{Continues, send_told, branch_told, close_told}
 use Rattle.safety.specs.Ready.{unmarked, Ready}
-use Rattle.safety.specs.Histories.{counts_of, stack_of, top_of, with_answer, Sends, short, selector, branch, Stores, to_variable, to_binding, MeetsNoBlock, WellPlaced, Progress, SameWithin}
-use Rattle.safety.proofs.Permitting.{MaySend, StoresTo, all_in_use, all_in_bounds, all_open, all_silent, all_leave}
+use Rattle.safety.specs.Histories.{counts_of, stack_of, top_of, with_answer, Sends, short, selector, branch, Stores, to_variable, to_binding, WritesCell, MeetsNoBlock, WellPlaced, Progress, SameWithin}
+use Rattle.safety.proofs.Permitting.{MaySend, StoresTo, all_in_use, all_in_bounds, all_open, all_silent, all_spare, all_leave}
 use Rattle.safety.proofs.Readiness.{path_starts, path_low, script_is, here, operand, need, next_permitted, ready_on}
 
 -- a run that came from an acceptance over the marks m, trusted or not
@@ -292,6 +292,20 @@ module _ {S : Type 0} (means : S → Meaning) (may : S → Sent → Value → S 
         (everywhere_map run.parts.literals (InBounds (counts_of run)) (Spares (in_frame j)) NotStuck (λ _. Unit {0})
         (spared_beyond j past) (λ l x. tt) (next_script run) (placed sound).within) st.came
 
+    -- what the instruction does not write
+    kept_elsewhere : {i : Instruction} {o : Operation} → InstructionAt run.parts.code run.place i o
+        → (j : ℕ) → (WritesCell (working_base run.parts) run.height i o j → ⊥)
+        → get_or f' j Nil ≡ get_or f j Nil
+    kept_elsewhere {i} {o} at j other =
+        let same = same_at at k.stands in
+        let none =
+        subst (λ (n : Instruction). WritesCell (working_base run.parts) run.height n k.operation j → ⊥) same.0
+        (subst (λ (u : Operation). WritesCell (working_base run.parts) run.height i u j → ⊥) same.1 other) in
+        unwritten run.parts.literals means may (in_frame j)
+        (script_at run.parts run.place run.height k.instruction k.operation) f s st.outcome f' s'
+        (all_spare run.parts run.place run.height k.instruction run.variable_count run.binding_count k.operation j none
+        _ (next_permitted sound.ready)) (came_of k.stands)
+
     -- where a live run is then
     led : {i : Instruction} {o : Operation} → InstructionAt run.parts.code run.place i o → run'.state ≡ Live
         → Among run'.place (successors run.parts.code run.place i o)
@@ -403,6 +417,7 @@ module _ {S : Type 0} (means : S → Meaning) (may : S → Sent → Value → S 
       untouched = untouched;
       below = kept_below;
       behind = kept_behind;
+      unwritten = kept_elsewhere;
     }
 
     -- an untrusted run's step keeps the trusted cells

@@ -11,7 +11,7 @@ use Rattle.parcels.specs.Opcodes.{arity_of, effect_of, after}
 use Rattle.parcels.specs.Reading.{starts_at}
 use Rattle.parcels.specs.declared.literals.Literal.TheVariants.{Selector, Binding}
 use Rattle.parcels.specs.declared.opcodes.Operation.{Operation}
-use Rattle.parcels.specs.declared.opcodes.Operation.TheVariants.{Send, SendSelector, Store, Branch, Close}
+use Rattle.parcels.specs.declared.opcodes.Operation.TheVariants.{Send, SendSelector, Push, Store, Branch, Duplicate, Close}
 use Rattle.parcels.specs.declared.opcodes.Target.TheVariants as target
 use Rattle.parcels.specs.declared.reading.Instruction.{Instruction}
 use Rattle.stages.specs.Check.{question_on}
@@ -98,6 +98,20 @@ pub data Stores (run : RunView) : Row → ℕ → Type 0 where
       → InstructionAt run.parts.code run.place i (Store target.Binding)
       → literal run.parts.literals i.argument ≡ Some (Binding n) → Stores run Bindings n
 
+-- the one cell of a frame that an instruction may write, where the working cells begin at base and
+-- height of them are in use: a send writes the receiver's, a push and a copy the one above the top,
+-- a store to an argument or a local that one, and a store to a binding and the making of a closure
+-- the top; all others write none
+abbrev pub WritesCell : (base height : ℕ) → Instruction → Operation → ℕ → Type 0
+WritesCell b h i Send j = j ≡ b + (h - arity_of i.opcode - 1)
+WritesCell b h i (SendSelector super) j = j ≡ b + (h - i.argument % 256 - 1)
+WritesCell b h i (Push s) j = j ≡ b + h
+WritesCell b h i Duplicate j = j ≡ b + h
+WritesCell b h i (Store target.Cell) j = j ≡ i.argument
+WritesCell b h i (Store target.Binding) j = j ≡ b + (h - 1)
+WritesCell b h i Close j = j ≡ b + (h - 1)
+WritesCell b h i _ j = ⊥
+
 -- a closure is to be made, and no block is on top
 pub record MeetsNoBlock (run : RunView) (f : List Value) : Type 0 where
   pub instruction : Instruction
@@ -150,6 +164,10 @@ module _ {S : Type 0} (means : S → Meaning) (may : S → Sent → Value → S 
         → j < working_base run.parts + (run.height - (effect_of o i).takes)
         → slice_index_or f' j Nil ≡ slice_index_or f j Nil
     pub behind : (j : ℕ) → frame_cells run.parts ≤ j
+        → slice_index_or f' j Nil ≡ slice_index_or f j Nil
+    -- and so does every cell that the instruction does not write
+    pub unwritten : {i : Instruction} {o : Operation} → InstructionAt run.parts.code run.place i o
+        → (j : ℕ) → (WritesCell (working_base run.parts) run.height i o j → ⊥)
         → slice_index_or f' j Nil ≡ slice_index_or f j Nil
 
   -- from a frame and a host that agree below a run's counts with f and s a step comes to the same
